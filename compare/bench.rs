@@ -1,0 +1,172 @@
+// Times the library beside the Rust, both through calls that cannot be inlined, on the same inputs in one run.
+#[allow(dead_code)]
+mod random;
+mod root_model;
+
+use random::{Random, power_of_two, step};
+use reference::Standins;
+use std::hint::black_box;
+use std::time::Instant;
+
+extern "C" {
+    fn numbers_sqrt(x: f64) -> f64;
+    fn numbers_sin(x: f64) -> f64;
+    fn numbers_cos(x: f64) -> f64;
+    fn numbers_atan2(y: f64, x: f64) -> f64;
+    fn numbers_asin(x: f64) -> f64;
+}
+
+#[inline(never)]
+extern "C" fn rust_sqrt(x: f64) -> f64 {
+    x.sqrt()
+}
+
+#[inline(never)]
+extern "C" fn rust_sin(x: f64) -> f64 {
+    x.std_sin()
+}
+
+#[inline(never)]
+extern "C" fn rust_cos(x: f64) -> f64 {
+    x.std_cos()
+}
+
+#[inline(never)]
+extern "C" fn rust_atan2(y: f64, x: f64) -> f64 {
+    y.std_atan2(x)
+}
+
+#[inline(never)]
+extern "C" fn rust_asin(x: f64) -> f64 {
+    x.std_asin()
+}
+
+type One = unsafe extern "C" fn(f64) -> f64;
+type Two = unsafe extern "C" fn(f64, f64) -> f64;
+
+const INPUTS: usize = 1_000_000;
+const ROUNDS: usize = 7;
+const COUNTED: u64 = 10_000_000;
+
+// Nanoseconds a call and what the answers come to, over all inputs.
+fn pass(f: impl Fn(usize) -> f64) -> (f64, u64) {
+    let start = Instant::now();
+    let mut all = 0;
+    for i in 0..INPUTS {
+        all ^= f(i).to_bits();
+    }
+    (start.elapsed().as_secs_f64() * 1e9 / INPUTS as f64, black_box(all))
+}
+
+// The best of some rounds of each side, in turn.
+fn row(name: &str, inputs: &str, rust: impl Fn(usize) -> f64, rattle: impl Fn(usize) -> f64) {
+    let (mut best_rust, mut best_rattle) = (f64::INFINITY, f64::INFINITY);
+    for _ in 0..ROUNDS {
+        let (time, answers) = pass(&rust);
+        best_rust = best_rust.min(time);
+        let (time, same) = pass(&rattle);
+        best_rattle = best_rattle.min(time);
+        assert_eq!(answers, same, "{name} of {inputs}: the answers differ");
+    }
+    println!("{name:<6} {inputs:<44} {best_rust:>8.2} {best_rattle:>8.2} {:>7.2}", best_rattle / best_rust);
+}
+
+fn one(name: &str, inputs: &str, rust: One, rattle: One, x: impl FnMut(usize) -> f64) {
+    let xs: Vec<f64> = (0..INPUTS).map(x).collect();
+    let (rust, rattle) = (black_box(rust), black_box(rattle));
+    row(name, inputs, |i| unsafe { rust(xs[i]) }, |i| unsafe { rattle(xs[i]) });
+}
+
+fn two(name: &str, inputs: &str, rust: Two, rattle: Two, yx: impl FnMut(usize) -> (f64, f64)) {
+    let yxs: Vec<(f64, f64)> = (0..INPUTS).map(yx).collect();
+    let (rust, rattle) = (black_box(rust), black_box(rattle));
+    row(name, inputs, |i| unsafe { rust(yxs[i].0, yxs[i].1) }, |i| unsafe { rattle(yxs[i].0, yxs[i].1) });
+}
+
+fn finite_above_zero(r: &mut Random) -> f64 {
+    f64::from_bits(1 + r.below(0x7fef_ffff_ffff_ffff))
+}
+
+fn times(r: &mut Random) {
+    println!("{:<6} {:<44} {:>8} {:>8} {:>7}", "", "inputs", "Rust ns", "Rattle ns", "ratio");
+    for (name, rust, rattle) in [("sin", rust_sin as One, numbers_sin as One), ("cos", rust_cos, numbers_cos)] {
+        one(name, "angles in -10 to 10", rust, rattle, |_| r.between(-10.0, 10.0));
+        one(name, "angles in -64 to 64", rust, rattle, |_| r.between(-64.0, 64.0));
+    }
+    two("atan2", "points of the unit square", rust_atan2, numbers_atan2, |_| (r.between(-1.0, 1.0), r.between(-1.0, 1.0)));
+    two("atan2", "points on many scales", rust_atan2, numbers_atan2, |_| {
+        let scale = power_of_two(r.about(60));
+        (r.between(-1.0, 1.0) * scale, r.between(-1.0, 1.0) * scale)
+    });
+    one("asin", "-1 to 1", rust_asin, numbers_asin, |_| r.between(-1.0, 1.0));
+    one("sqrt", "0 to 1000", rust_sqrt, numbers_sqrt, |_| r.between(0.0, 1000.0));
+    one("sqrt", "random exponents", rust_sqrt, numbers_sqrt, |_| finite_above_zero(r));
+    one("sqrt", "sums of squares of earth-like coordinates", rust_sqrt, numbers_sqrt, |_| {
+        let [x, y, z] = [0; 3].map(|_| r.between(-7e6, 7e6));
+        x * x + y * y + z * z
+    });
+}
+
+// How often the root falls back to its digit loop, by the model, which must answer as the library does.
+#[derive(Default)]
+struct FallBacks {
+    count: u64,
+    slow: u64,
+    wrong: u64,
+}
+
+impl FallBacks {
+    fn root(&mut self, x: f64) {
+        self.count += 1;
+        match root_model::root(x) {
+            None => self.slow += 1,
+            Some(bits) => self.wrong += (bits != unsafe { numbers_sqrt(x) }.to_bits()) as u64,
+        }
+    }
+
+    // w stands for a double or, where it is odd and above 2^53, for none.
+    fn whole(&mut self, w: u64) {
+        if w < 1 << 53 || w % 2 == 0 {
+            self.root(w as f64);
+        } else {
+            self.count += 1;
+            self.slow += root_model::falls_back(w) as u64;
+        }
+    }
+
+    fn report(&self, of: &str) -> bool {
+        println!("{of:<52} {:>9} inputs {:>8} fall back {:>8} of the rest not as the library", self.count, self.slow, self.wrong);
+        self.wrong == 0
+    }
+}
+
+fn fall_backs(r: &mut Random) -> bool {
+    println!("how often sqrt needs its digit loop, by a model of its test");
+    let mut random = FallBacks::default();
+    for _ in 0..COUNTED {
+        random.root(finite_above_zero(r));
+    }
+    let mut squares = FallBacks::default();
+    for _ in 0..COUNTED {
+        let k = ((1 << 25) + r.below((1 << 27) - (1 << 25))) as f64;
+        squares.root(step(k * k, r.about(1)));
+    }
+    let mut edges = FallBacks::default();
+    for edge in [1u64 << 52, 1 << 53, 1 << 54] {
+        for w in edge - 1_000_000..=edge + 1_000_000 {
+            if (1 << 52..1 << 54).contains(&w) {
+                edges.whole(w);
+            }
+        }
+    }
+    let fine = random.report("random bits above zero");
+    let fine = squares.report("squares of 26 and 27 bits, and beside") && fine;
+    edges.report("whole numbers beside 2^52, 2^53 and 2^54") && fine
+}
+
+fn main() {
+    let mut r = Random(20261115);
+    times(&mut r);
+    println!();
+    std::process::exit(if fall_backs(&mut r) { 0 } else { 1 });
+}

@@ -1,0 +1,178 @@
+-- Laws of one rounded operation, at any format: zero is neutral in a sum, a finite value less itself is zero, and so is zero times one. Assumes nothing.
+use mathlib.Core.Path.{_≡_, refl, sym, ap, _∙_, subst}
+use Prim.Native.Nat.{ℕ, zero, suc, _+_, _-_, _*_, _<_}
+use native.Mathlib.Nat.{sub-zero, sub-self, add-zero, mul-one, one-mul, zero-mul, zero-add, mul-pos, lt-irrefl, zero-lt-suc}
+use native.Mathlib.Omega.{arith}
+use mathlib.Core.Bool.{Bool, true, false, not, _&&_, _||_, Bool·beq, cond}
+use lib.IntN.{ℤ, pos}
+use lib.Dec.{T, ltb, eqb, ltb→lt, lt→ltb, eqb-refl}
+use lib.Ieee.{Float, nan, inf, fin, Format, up, down, unlike, round, neg, sum, add, sub, mul, eq, level, fits}
+use lib.Ieee.Fits.{up-pos, down-pos, add-fits}
+use lib.Ieee.Scale.{finite}
+use Rattle.numbers.proofs.RoundLaw.{zero-exp, round-zero, round-own}
+
+-- ---- zero, and what adding it does
+
+-- plus zero
+abbrev pub zeroF : Float
+zeroF = fin false 0 (pos 0)
+
+-- not minus zero
+abbrev pub plain : Float → Bool
+plain nan = true
+plain (inf s) = true
+plain (fin s zero e) = not s
+plain (fin s (suc m) e) = true
+
+-- a sum of two fractions of which one is zero
+sum-left : (f : Format) (t : Bool) (b c : ℕ) → 0 < b → sum f false 0 t b c ≡ round f t b c
+unfolding sum
+sum-left f false b c h = ap (λ (x : ℕ). round f false x c) (zero-add b)
+sum-left f true b c h = go (ltb 0 b) (lt→ltb 0 b h)
+  where
+    go : (k : Bool) → T k → cond k (round f true (b - 0) c) (round f (false && ltb b 0) (0 - b) c) ≡ round f true b c
+    go true q = ap (λ (x : ℕ). round f true x c) (sub-zero b)
+    go false q = absurd q
+
+sum-right : (f : Format) (s : Bool) (a c : ℕ) → 0 < a → sum f s a false 0 c ≡ round f s a c
+unfolding sum
+sum-right f false a c h = ap (λ (x : ℕ). round f false x c) (add-zero a)
+sum-right f true a c h = go (ltb a 0) (ltb→lt a 0) (ltb 0 a) (lt→ltb 0 a h)
+  where
+    none : (x : ℕ) → x < 0 → ⊥
+    none x q = omega arith
+
+    go : (k : Bool) → (T k → a < 0) → (l : Bool) → T l → cond k (round f false (0 - a) c) (round f (true && l) (a - 0) c) ≡ round f true a c
+    go true q l r = absurd (none a (q tt))
+    go false q true r = ap (λ (x : ℕ). round f true x c) (sub-zero a)
+    go false q false r = absurd r
+
+-- a sum of two zeros: minus zero where both are negative
+abbrev zeroOf : Bool → Float
+zeroOf s = fin s 0 (pos 0)
+
+sum-none : (f : Format) (s t : Bool) (c : ℕ) → 0 < c → sum f s 0 t 0 c ≡ zeroOf (s && t)
+unfolding sum
+sum-none f false false c h = round-zero f false c h
+sum-none f false true c h = round-zero f false c h
+sum-none f true false c h = round-zero f false c h
+sum-none f true true c h = round-zero f true c h
+
+-- the operators at two finite values, with `sum` and `round` shut
+add-is : (f : Format) (s : Bool) (m : ℕ) (e : ℤ) (t : Bool) (n : ℕ) (d : ℤ) → add f (fin s m e) (fin t n d) ≡ sum f s (m * up e * down d) t (n * up d * down e) (down e * down d)
+unfolding add
+add-is f s m e t n d = refl
+
+mul-is : (f : Format) (s : Bool) (m : ℕ) (e : ℤ) (t : Bool) (n : ℕ) (d : ℤ) → mul f (fin s m e) (fin t n d) ≡ round f (unlike s t) (m * up e * (n * up d)) (down e * down d)
+unfolding mul
+mul-is f s m e t n d = refl
+
+add-nan : (f : Format) (s : Bool) (m : ℕ) (e : ℤ) → add f (fin s m e) nan ≡ nan
+unfolding add
+add-nan f s m e = refl
+
+add-inf : (f : Format) (s : Bool) (m : ℕ) (e : ℤ) (t : Bool) → add f (fin s m e) (inf t) ≡ inf t
+unfolding add
+add-inf f s m e t = refl
+
+nan-add : (f : Format) (x : Float) → add f nan x ≡ nan
+unfolding add
+nan-add f x = refl
+
+inf-add : (f : Format) (s : Bool) (t : Bool) (m : ℕ) (e : ℤ) → add f (inf s) (fin t m e) ≡ inf s
+unfolding add
+inf-add f s t m e = refl
+
+-- zeros of either sign
+pub add-zeros : (f : Format) (s t : Bool) → add f (fin s 0 (pos 0)) (fin t 0 (pos 0)) ≡ fin (s && t) 0 (pos 0)
+add-zeros f s t = add-is f s 0 (pos 0) t 0 (pos 0) ∙ sum-none f s t 1 (zero-lt-suc 0)
+
+pub add-zero-left : (f : Format) (x : Float) → T (fits f x) → T (plain x) → add f zeroF x ≡ x
+add-zero-left f nan t p = add-nan f false 0 (pos 0)
+add-zero-left f (inf s) t p = add-inf f false 0 (pos 0) s
+add-zero-left f (fin true zero e) t p = absurd p
+add-zero-left f (fin false zero e) t p =
+    let z = zero-exp f false e t in
+    ap (λ (x : ℤ). add f zeroF (fin false 0 x)) z ∙ add-zeros f false false ∙ ap (λ (x : ℤ). fin false 0 x) (sym z)
+add-zero-left f (fin s (suc m) e) t p =
+    add-is f false 0 (pos 0) s (suc m) e
+    ∙ ap (λ (x : ℕ). sum f false x s (suc m * up e * 1) (1 * down e)) (zero-mul (down e))
+    ∙ ap (λ (x : ℕ). sum f false 0 s x (1 * down e)) (mul-one (suc m * up e))
+    ∙ ap (λ (x : ℕ). sum f false 0 s (suc m * up e) x) (one-mul (down e))
+    ∙ sum-left f s (suc m * up e) (down e) (mul-pos (zero-lt-suc m) (up-pos e))
+    ∙ round-own f s (suc m) e (suc m * up e) (down e) t (down-pos e) refl
+
+pub add-zero-right : (f : Format) (x : Float) → T (fits f x) → T (plain x) → add f x zeroF ≡ x
+add-zero-right f nan t p = nan-add f zeroF
+add-zero-right f (inf s) t p = inf-add f s false 0 (pos 0)
+add-zero-right f (fin true zero e) t p = absurd p
+add-zero-right f (fin false zero e) t p =
+    let z = zero-exp f false e t in
+    ap (λ (x : ℤ). add f (fin false 0 x) zeroF) z ∙ add-zeros f false false ∙ ap (λ (x : ℤ). fin false 0 x) (sym z)
+add-zero-right f (fin s (suc m) e) t p =
+    add-is f s (suc m) e false 0 (pos 0)
+    ∙ ap (λ (x : ℕ). sum f s x false (0 * down e) (down e * 1)) (mul-one (suc m * up e))
+    ∙ ap (λ (x : ℕ). sum f s (suc m * up e) false x (down e * 1)) (zero-mul (down e))
+    ∙ ap (λ (x : ℕ). sum f s (suc m * up e) false 0 x) (mul-one (down e))
+    ∙ sum-right f s (suc m * up e) (down e) (mul-pos (zero-lt-suc m) (up-pos e))
+    ∙ round-own f s (suc m) e (suc m * up e) (down e) t (down-pos e) refl
+
+-- ---- `0.0 + x`, which `Vec3::new` computes, is never minus zero, and a second time it changes nothing
+
+pub new-plain : (f : Format) (x : Float) → T (fits f x) → T (plain (add f zeroF x))
+new-plain f nan t = subst (λ (y : Float). T (plain y)) (sym (add-nan f false 0 (pos 0))) tt
+new-plain f (inf s) t = subst (λ (y : Float). T (plain y)) (sym (add-inf f false 0 (pos 0) s)) tt
+new-plain f (fin s zero e) t =
+    subst (λ (y : Float). T (plain y)) (sym (ap (λ (x : ℤ). add f zeroF (fin s 0 x)) (zero-exp f s e t) ∙ add-zeros f false s)) tt
+new-plain f (fin s (suc m) e) t = subst (λ (y : Float). T (plain y)) (sym (add-zero-left f (fin s (suc m) e) t tt)) tt
+
+pub new-twice : (f : Format) (x : Float) → T (fits f x) → add f zeroF (add f zeroF x) ≡ add f zeroF x
+new-twice f x t = add-zero-left f (add f zeroF x) (add-fits f zeroF x) (new-plain f x t)
+
+-- ---- a finite value less itself is plus zero
+
+neg-is : (s : Bool) (m : ℕ) (e : ℤ) → neg (fin s m e) ≡ fin (not s) m e
+unfolding neg
+neg-is s m e = refl
+
+sub-is : (f : Format) (x y : Float) → sub f x y ≡ add f x (neg y)
+unfolding sub
+sub-is f x y = refl
+
+sum-cancel : (f : Format) (s : Bool) (a c : ℕ) → 0 < c → sum f s a (not s) a c ≡ zeroF
+unfolding sum
+sum-cancel f s a c h = go s (ltb a a) (ltb→lt a a)
+  where
+    go : (s : Bool) (k : Bool) → (T k → a < a) → cond (Bool·beq s (not s)) (round f s (a + a) c) (cond k (round f (not s) (a - a) c) (round f (s && k) (a - a) c)) ≡ zeroF
+    go s true q = absurd (lt-irrefl a (q tt))
+    go false false q = ap (λ (x : ℕ). round f false x c) (sub-self a) ∙ round-zero f false c h
+    go true false q = ap (λ (x : ℕ). round f false x c) (sub-self a) ∙ round-zero f false c h
+
+pub sub-self-zero : (f : Format) (x : Float) → T (finite x) → sub f x x ≡ zeroF
+sub-self-zero f (fin s m e) t =
+    sub-is f (fin s m e) (fin s m e) ∙ ap (λ (y : Float). add f (fin s m e) y) (neg-is s m e) ∙ add-is f s m e (not s) m e
+    ∙ sum-cancel f s (m * up e * down e) (down e * down e) (mul-pos (down-pos e) (down-pos e))
+
+-- ---- zero times a finite value is a zero
+
+pub zero-times : (f : Format) (x : Float) → T (finite x) → (s : Bool) × (mul f zeroF x ≡ fin s 0 (pos 0))
+zero-times f (fin s m e) t = (
+  unlike false s,
+  mul-is f false 0 (pos 0) s m e
+      ∙ ap (λ (x : ℕ). round f (unlike false s) x (1 * down e)) (zero-mul (m * up e))
+      ∙ round-zero f (unlike false s) (1 * down e) (mul-pos (zero-lt-suc 0) (down-pos e)),
+)
+
+-- ---- a finite value equals itself as a number
+
+level-self : (s : Bool) (a : ℕ) → level s a s a ≡ true
+level-self s a = go s (eqb a a) (eqb-refl a)
+  where
+    go : (s : Bool) (b : Bool) → T b → (b && (Bool·beq s s || eqb a 0)) ≡ true
+    go false true t = refl
+    go true true t = refl
+    go s false t = absurd t
+
+pub eq-self : (x : Float) → T (finite x) → eq x x ≡ true
+unfolding eq
+eq-self (fin s m e) t = level-self s (m * up e * down e)

@@ -1,0 +1,16 @@
+pub mod Constants
+pub mod RoundLaw
+pub mod FloatLaws
+pub mod NoNan
+pub mod Quotient
+pub mod Isqrt
+pub mod Halves
+pub mod Rounded
+pub mod RootGrid
+pub mod RootLaw
+pub mod Bounds
+pub mod CeilLaw
+pub mod Range
+pub mod FitLaws
+pub mod VecLaws
+pub mod Examples

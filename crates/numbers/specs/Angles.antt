@@ -1,0 +1,55 @@
+-- Angles: a wrapped number, in radians. angle.rs.
+use mathlib.Core.Bool.{Bool, _&&_}
+use lib.Ieee as Ieee
+use lib.Ieee.{Float}
+use Rattle.numbers.specs.Ops.{_⊕_, _⊗_, _⊘_, num, pick}
+use Rattle.numbers.specs.Floats.{pi, abs, toRadians, toDegrees, remainder, epsilon}
+use Rattle.numbers.specs.declared.angle.Angle.{Angle}
+
+abbrev pub angle : Float → Angle
+angle x = record { 0 = x }
+
+-- `FULL_CIRCLE`, `HALF_CIRCLE`, `QUARTER_CIRCLE` and the negatives
+abbrev pub fullCircle : Angle
+fullCircle = angle (num 2 ⊗ pi)
+
+abbrev pub halfCircle : Angle
+halfCircle = angle pi
+
+abbrev pub negHalfCircle : Angle
+negHalfCircle = angle (Ieee.neg pi)
+
+abbrev pub quarterCircle : Angle
+quarterCircle = angle (pi ⊘ num 2)
+
+abbrev pub negQuarterCircle : Angle
+negQuarterCircle = angle (Ieee.neg pi ⊘ num 2)
+
+-- `from_degrees`, `as_degrees`
+abbrev pub fromDegrees : Float → Angle
+fromDegrees x = angle (toRadians x)
+
+abbrev pub asDegrees : Angle → Float
+asDegrees a = toDegrees (a .0)
+
+abbrev pub angleAbs : Angle → Angle
+angleAbs a = angle (abs (a .0))
+
+-- an operator not spelled out in angle.rs is that operation on the number held
+abbrev pub angleNeg : Angle → Angle
+angleNeg a = angle (Ieee.neg (a .0))
+
+abbrev pub angleEq : Angle → Angle → Bool
+angleEq a b = Ieee.eq (a .0) (b .0)
+
+-- the remainder of a by max, moved up by max where it is below zero
+unfoldable pub wrapped : Float → Float → Angle
+wrapped a max = pick (Ieee.lt (remainder a max) (num 0)) (angle (remainder a max ⊕ max)) (angle (remainder a max))
+
+-- `normalised_to`
+unfoldable pub normalisedTo : Angle → Angle → Angle
+normalisedTo a max = pick (Ieee.le (num 0) (a .0) && Ieee.lt (a .0) (max .0)) a (wrapped (a .0) (max .0))
+
+-- `normalised`
+unfoldable pub normalised : Angle → Angle
+normalised a = normalisedTo a fullCircle

@@ -1,0 +1,12 @@
+pub mod Ops
+pub mod Root
+pub mod RootSteps
+pub mod Sine
+pub mod Arctangent
+pub mod Powers
+pub mod Floats
+pub mod Angles
+pub mod Lengths
+pub mod Vec
+pub mod Mat
+pub mod Computed

@@ -1,0 +1,32 @@
+-- What the inner functions of src/root.rt promise each other. Nothing that a caller of `sqrt` relies on stands here.
+use mathlib.Core.Path.{_≡_}
+use Prim.Native.Nat.{ℕ, zero, suc, _+_, _*_, _/_, _%_, _^_, _≤_, _<_}
+use lib.Ieee.{binary64, ofBits}
+use Rattle.numbers.specs.Root.{sqrt}
+
+-- root is the whole part of the root of w * 2 ^ 52, and rest is what is left
+pub record Squared (w root rest : ℕ) : Type 0 where
+  pub whole : root * root + rest ≡ w * 4503599627370496
+  pub less : rest ≤ 2 * root
+  pub short : root < 2 ^ 53
+
+-- n is w * 4 ^ g, with a w of 53 or 54 digits, and g at most top
+pub record Lifted (n top w g : ℕ) : Type 0 where
+  pub same : w * 4 ^ g ≡ n
+  pub low : 4503599627370496 ≤ w
+  pub high : w < 2 ^ 54
+  pub under : g ≤ top
+  pub over : 1 ≤ g
+
+-- the value of the bits b of a positive number, in units of 2 ^ -1074
+abbrev pub unitsAt : ℕ → ℕ → ℕ
+unitsAt zero t = t
+unitsAt (suc x) t = (4503599627370496 + t) * 2 ^ x
+
+unfoldable pub unitsOf : ℕ → ℕ
+unitsOf b = unitsAt (b / 4503599627370496) (b % 4503599627370496)
+
+-- r are the bits of the root of the value of the bits b
+pub record RootOf (b r : ℕ) : Type 0 where
+  pub is : ofBits binary64 r ≡ sqrt (ofBits binary64 b)
+  pub finite : r < 0x7ff0_0000_0000_0000

@@ -1,0 +1,102 @@
+// An angle: a wrapped number, in radians.
+use crate::float::abs;
+use crate::float::to_degrees;
+use crate::float::to_radians;
+ghost use mathlib.Core.Path.{_≡_};
+ghost use Rattle.numbers.specs.Angles.{angle, fromDegrees, asDegrees, angleAbs, angleNeg, angleEq, wrapped, normalisedTo};
+ghost use Rattle.numbers.specs.Angles as Angles;
+
+const PI: f64 = 3.141592653589793;
+
+pub struct Angle(pub f64);
+
+impl Angle {
+    pub const ZERO: Angle = Angle(0.0);
+
+    pub const QUARTER_CIRCLE: Angle = Angle(PI / 2.0);
+
+    pub const NEG_QUARTER_CIRCLE: Angle = Angle(-PI / 2.0);
+
+    pub const HALF_CIRCLE: Angle = Angle(PI);
+
+    pub const NEG_HALF_CIRCLE: Angle = Angle(-PI);
+
+    pub const FULL_CIRCLE: Angle = Angle(2.0 * PI);
+
+    pub const DBL_EPSILON: Angle = Angle(2.220446049250313e-16);
+
+    pub fn as_degrees(self) -> f64
+        ensures { λ r. ⌜ r ≡ asDegrees self ⌝ }
+    {
+        to_degrees(self.0)
+    }
+
+    pub fn as_radians(self) -> f64
+        ensures { λ r. ⌜ r ≡ self .0 ⌝ }
+    {
+        self.0
+    }
+
+    pub fn from_degrees(degrees: f64) -> Self
+        ensures { λ r. ⌜ r ≡ fromDegrees degrees ⌝ }
+    {
+        Angle(to_radians(degrees))
+    }
+
+    pub fn from_radians(radians: f64) -> Self
+        ensures { λ r. ⌜ r ≡ angle radians ⌝ }
+    {
+        Angle(radians)
+    }
+
+    pub fn abs(self) -> Self
+        ensures { λ r. ⌜ r ≡ angleAbs self ⌝ }
+    {
+        Angle(abs(self.0))
+    }
+
+    pub fn normalised(self) -> Self
+        ensures { λ r. ⌜ r ≡ Angles.normalised self ⌝ }
+    {
+        self.normalised_to(Angle::FULL_CIRCLE)
+    }
+
+    pub fn normalised_to(self, max: Angle) -> Self
+        ensures { λ r. ⌜ r ≡ normalisedTo self max ⌝ }
+    {
+        if self.0 >= 0.0 {
+            if self.0 < max.0 {
+                self
+            } else {
+                self.wrapped(max)
+            }
+        } else {
+            self.wrapped(max)
+        }
+    }
+
+    // The remainder by max, moved up by max where it is below zero.
+    fn wrapped(self, max: Angle) -> Self
+        ensures { λ r. ⌜ r ≡ wrapped (self .0) (max .0) ⌝ }
+    {
+        let res = self.0 % max.0;
+        if res < 0.0 {
+            Angle::from_radians(res + max.0)
+        } else {
+            Angle::from_radians(res)
+        }
+    }
+
+    // `-` and `==` of the Rust.
+    pub fn neg(self) -> Self
+        ensures { λ r. ⌜ r ≡ angleNeg self ⌝ }
+    {
+        Angle(-self.0)
+    }
+
+    pub fn eq(self, rhs: Angle) -> bool
+        ensures { λ r. ⌜ r ≡ angleEq self rhs ⌝ }
+    {
+        self.0 == rhs.0
+    }
+}

@@ -1,0 +1,64 @@
+// The smaller methods of f64 that the Rust uses, and the double of a decimal numeral.
+ghost use mathlib.Core.Path.{_≡_};
+ghost use Prim.Native.Nat.{_≤_, _<_, _^_};
+ghost use Rattle.numbers.specs.Floats as Floats;
+ghost use Rattle.numbers.specs.Floats.{signBit, clampUnit, toRadians, toDegrees, remainder, nearest};
+
+const PI: f64 = 3.141592653589793;
+
+// Whether the sign bit is set. A NaN's is open, and counts as clear.
+pub fn is_sign_negative(x: f64) -> bool
+    ensures { λ r. ⌜ r ≡ signBit x ⌝ }
+{
+    if x != x {
+        return false;
+    }
+    f64::to_bits(x) >= 0x8000_0000_0000_0000
+}
+
+pub fn abs(x: f64) -> f64
+    ensures { λ r. ⌜ r ≡ Floats.abs x ⌝ }
+{
+    if is_sign_negative(x) { -x } else { x }
+}
+
+// clamp(-1.0, 1.0)
+pub fn clamp_unit(x: f64) -> f64
+    ensures { λ r. ⌜ r ≡ clampUnit x ⌝ }
+{
+    if x < -1.0 {
+        return -1.0;
+    }
+    if x > 1.0 {
+        return 1.0;
+    }
+    x
+}
+
+pub fn to_radians(x: f64) -> f64
+    ensures { λ r. ⌜ r ≡ toRadians x ⌝ }
+{
+    x * (PI / 180.0)
+}
+
+pub fn to_degrees(x: f64) -> f64
+    ensures { λ r. ⌜ r ≡ toDegrees x ⌝ }
+{
+    x * (180.0 / PI)
+}
+
+// Rust's `%`.
+pub fn rem(x: f64, y: f64) -> f64
+    ensures { λ r. ⌜ r ≡ remainder x y ⌝ }
+{
+    x % y
+}
+
+// The double nearest to digits / tens, ties to even, negated where `negative`. Digits and tens are doubles exactly.
+pub fn decimal(negative: bool, digits: u64, tens: u64) -> f64
+    requires { ⌜ (digits ≤ 2 ^ 53) × (tens ≤ 2 ^ 53) × (0 < tens) ⌝ }
+    ensures { λ r. ⌜ r ≡ nearest negative digits tens ⌝ }
+{
+    let v = digits as f64 / tens as f64;
+    if negative { -v } else { v }
+}

@@ -1,0 +1,50 @@
+// A length: a wrapped number, in metres.
+ghost use mathlib.Core.Path.{_≡_};
+ghost use Rattle.numbers.specs.Lengths.{metres, lengthNeg, lengthMul, lengthDiv, lengthAbs};
+
+pub struct Length(pub f64);
+
+impl Length {
+    pub const ZERO: Length = Length(0.0);
+
+    pub fn from_metres(m: f64) -> Self
+        ensures { λ r. ⌜ r ≡ metres m ⌝ }
+    {
+        Length(m)
+    }
+
+    pub fn as_metres(self) -> f64
+        ensures { λ r. ⌜ r ≡ self .0 ⌝ }
+    {
+        self.0
+    }
+
+    pub fn abs(self) -> Self
+        ensures { λ r. ⌜ r ≡ lengthAbs self ⌝ }
+    {
+        if self.0 >= 0.0 {
+            self
+        } else {
+            Length::from_metres(-self.0)
+        }
+    }
+
+    // `-`, `*` and `/` of the Rust. A number times a length is the length times it.
+    pub fn neg(self) -> Self
+        ensures { λ r. ⌜ r ≡ lengthNeg self ⌝ }
+    {
+        Length(-self.0)
+    }
+
+    pub fn mul(self, rhs: f64) -> Self
+        ensures { λ r. ⌜ r ≡ lengthMul self rhs ⌝ }
+    {
+        Length(self.0 * rhs)
+    }
+
+    pub fn div(self, rhs: Length) -> f64
+        ensures { λ r. ⌜ r ≡ lengthDiv self rhs ⌝ }
+    {
+        self.0 / rhs.0
+    }
+}

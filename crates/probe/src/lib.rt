@@ -1,0 +1,61 @@
+// Every operation of `numbers` under a number, for the comparison with the Rust and for replaying its recorded answers.
+// Inputs and outputs are bits. What the operations call is proved; the functions here only hand over.
+pub mod angles;
+pub mod floats;
+pub mod matrices;
+pub mod table;
+pub mod vectors;
+pub mod words;
+
+pub use table::apply;
+pub use table::inputs_of;
+pub use table::outputs_of;
+pub use words::bits;
+pub use words::double;
+ghost use mathlib.Core.Path.{_≡_};
+ghost use Rattle.numbers.specs.Root as Root;
+ghost use Rattle.numbers.specs.Sine as Sine;
+ghost use Rattle.numbers.specs.Arctangent as Arctangent;
+
+// The functions for C.
+
+// `table::apply`: the words of an operation's answer, then zeros.
+#[no_mangle]
+pub extern "C" fn numbers_apply(op: u64, inputs: &[u64; 18], outputs: &mut [u64; 21]) {
+    *outputs = table::apply(op, *inputs);
+}
+
+#[no_mangle]
+pub extern "C" fn numbers_sqrt(x: f64) -> f64
+    ensures { λ r. ⌜ r ≡ Root.sqrt x ⌝ }
+{
+    numbers::root::sqrt(x)
+}
+
+#[no_mangle]
+pub extern "C" fn numbers_sin(x: f64) -> f64
+    ensures { λ r. ⌜ r ≡ Sine.sin x ⌝ }
+{
+    numbers::sine::sin(x)
+}
+
+#[no_mangle]
+pub extern "C" fn numbers_cos(x: f64) -> f64
+    ensures { λ r. ⌜ r ≡ Sine.cos x ⌝ }
+{
+    numbers::sine::cos(x)
+}
+
+#[no_mangle]
+pub extern "C" fn numbers_atan2(y: f64, x: f64) -> f64
+    ensures { λ r. ⌜ r ≡ Arctangent.atan2 y x ⌝ }
+{
+    numbers::arctangent::atan2(y, x)
+}
+
+#[no_mangle]
+pub extern "C" fn numbers_asin(x: f64) -> f64
+    ensures { λ r. ⌜ r ≡ Arctangent.asin x ⌝ }
+{
+    numbers::arctangent::asin(x)
+}

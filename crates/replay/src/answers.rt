@@ -1,0 +1,166 @@
+// A line of an operation and its inputs, and the line of its answer.
+ghost use Prim.Native.Nat.{_+_, _*_, _≤_};
+ghost use lib.ListN.{length};
+ghost use Rattle.io.specs.Counts.{Counts};
+
+// The inputs of a line. They are all there where ok.
+struct Given {
+    pub ok: bool,
+    pub words: [u64; 18],
+}
+
+// What sixteen places of a line hold.
+enum Read {
+    Word(u64),
+    Not,
+}
+
+// A decimal digit, or 10 where it is none.
+fn decimal_digit(b: u8) -> u64
+    ensures { λ r. ⌜ r ≤ 10 ⌝ }
+{
+    match b {
+        b'0'..=b'9' => (b - b'0') as u64,
+        _ => 10,
+    }
+}
+
+// A hexadecimal digit, in lower case, or 16 where it is none.
+fn hex_digit(b: u8) -> u64
+    ensures { λ r. ⌜ r ≤ 16 ⌝ }
+{
+    match b {
+        b'0'..=b'9' => (b - b'0') as u64,
+        b'a'..=b'f' => (b - b'a') as u64 + 10,
+        _ => 16,
+    }
+}
+
+// The operation of the first two digits, or 100 where they are none.
+fn operation(s: &[u8]) -> u64 {
+    if s.len() < 2 {
+        return 100;
+    }
+    let tens = decimal_digit(s[0]);
+    let ones = decimal_digit(s[1]);
+    if tens == 10 {
+        return 100;
+    }
+    if ones == 10 {
+        return 100;
+    }
+    tens * 10 + ones
+}
+
+// The word of the sixteen digits at a place.
+fn word(s: &[u8], at: usize) -> Read
+    requires { ⌜ at + 16 ≤ length (now s) ⌝ }
+{
+    let mut value: u64 = 0;
+    let mut left: usize = 16;
+    let mut i = at;
+    while 0 < left {
+        let d = hex_digit(s[i]);
+        if d == 16 {
+            return Read::Not;
+        }
+        value = value * 16 + d;
+        i += 1;
+        left -= 1;
+    }
+    Read::Word(value)
+}
+
+// The words of a line that is as long as its operation and `count` inputs.
+fn inputs(s: &[u8], count: usize) -> Given
+    requires { ⌜ (2 + 17 * count ≤ length (now s)) × (count ≤ 18) ⌝ }
+{
+    let mut words = [0u64; 18];
+    let mut i: usize = 0;
+    while i < count {
+        let at = 2 + 17 * i;
+        if s[at] != b' ' {
+            return Given { ok: false, words };
+        }
+        match word(s, at + 1) {
+            Read::Word(x) => {
+                words[i] = x;
+            }
+            Read::Not => {
+                return Given { ok: false, words };
+            }
+        }
+        i += 1;
+    }
+    Given { ok: true, words }
+}
+
+// The last hexadecimal digit of a word.
+fn glyph(d: u64) -> u8 {
+    let b = (d % 16) as u8;
+    if b < 10 { b'0' + b } else { b'a' + (b - 10) }
+}
+
+// The sixteen digits of a word at a place of out.
+fn put_word(out: &mut [u8], at: usize, x: u64)
+    requires { ⌜ at + 16 ≤ length (now out) ⌝ }
+{
+    let mut rest = x;
+    let mut left: usize = 16;
+    while 0 < left {
+        left -= 1;
+        out[at + left] = glyph(rest);
+        rest = rest / 16;
+    }
+}
+
+// The line of an answer: the operation's two digits, as the line s has them, and the words.
+fn answer(s: &[u8], words: [u64; 21], count: usize, out: &mut [u8]) -> usize
+    requires { ⌜ (2 ≤ length (now s)) × (count ≤ 21) × (360 ≤ length (now out)) ⌝ }
+    ensures { λ r. ⌜ Counts r (now (out .exit)) ⌝ }
+{
+    out[0] = s[0];
+    out[1] = s[1];
+    let mut i: usize = 0;
+    let mut at: usize = 2;
+    while i < count {
+        out[at] = b' ';
+        put_word(out, at + 1, words[i]);
+        at += 17;
+        i += 1;
+    }
+    out[at] = b'\n';
+    at + 1
+}
+
+// The line for what is no operation with its inputs.
+fn refusal(out: &mut [u8]) -> usize
+    requires { ⌜ 360 ≤ length (now out) ⌝ }
+    ensures { λ r. ⌜ Counts r (now (out .exit)) ⌝ }
+{
+    out[0] = b'?';
+    out[1] = b'\n';
+    2
+}
+
+// The answer to a line, which is given without its LF, at the start of out: how many bytes it has, its LF with them.
+pub fn line(s: &[u8], out: &mut [u8]) -> usize
+    requires { ⌜ 360 ≤ length (now out) ⌝ }
+    ensures { λ r. ⌜ Counts r (now (out .exit)) ⌝ }
+{
+    let op = operation(s);
+    let outputs = probe::outputs_of(op);
+    if outputs == 0 {
+        return refusal(out);
+    }
+    let count = probe::inputs_of(op);
+    if s.len() != 2 + 17 * count {
+        return refusal(out);
+    }
+    let given = inputs(s, count);
+    if !given.ok {
+        return refusal(out);
+    }
+    let words = given.words;
+    answer(s, probe::apply(op, words), outputs, out)
+}
