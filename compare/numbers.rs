@@ -42,9 +42,12 @@ impl Tally<'_> {
     }
 
     fn show(&self, inputs: &[u64; INPUTS], ours: &[u64; OUTPUTS], theirs: &[u64; OUTPUTS]) {
+        // the answer's places, and those after it as far as they differ
+        let last = (0..OUTPUTS).rev().find(|&k| ours[k] != theirs[k]).unwrap_or(0);
+        let shown = self.operation.outputs.max(last + 1);
         println!("   {} differs at{}", self.operation.name, hex(&inputs[..self.operation.inputs]));
-        println!("      Rust  {}", hex(theirs));
-        println!("      Rattle{}", hex(ours));
+        println!("      Rust  {}", hex(&theirs[..shown]));
+        println!("      Rattle{}", hex(&ours[..shown]));
     }
 
     // Every special value, or every pair of them.

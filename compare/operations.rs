@@ -172,7 +172,7 @@ pub static OPERATIONS: [Operation; 59] = [
     op("Mat33::new", 9, 9, Vectors, |i, o| o.m(Mat33::new(i.v(0), i.v(3), i.v(6)))),
     op("Angle::from_radians as_radians", 1, 1, Number, |i, o| o.n(Angle::from_radians(i.n(0)).as_radians())),
     op("Length::from_metres as_metres", 1, 1, Number, |i, o| o.n(Length::from_metres(i.n(0)).as_metres())),
-    op("is_sign_negative", 1, 1, Number, |i, o| o.b(i.n(0).is_sign_negative() && !i.n(0).is_nan())),
+    op("sign_bit", 1, 1, Number, |i, o| o.b(i.n(0).is_sign_negative() && !i.n(0).is_nan())),
     op("Length::ZERO", 0, 1, Nothing, |_, o| o.l(Length::ZERO)),
 ];
 

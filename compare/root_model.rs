@@ -1,17 +1,38 @@
 // A MODEL of `near` and `square` in crates/numbers/src/root.rt, by the same operations: it tells how often the root needs its slow digit loop, which the library does not say. The bench checks that it answers as the library does.
 
+const TWO_52: u64 = 1 << 52;
+const TWO_53: u64 = 1 << 53;
+const HALF_BITS: u64 = 0x3fe0_0000_0000_0000;
+const ONE_BITS: u64 = 0x3ff0_0000_0000_0000;
+
+fn near(w: u64) -> u64 {
+    let bits = if w < TWO_53 { w + HALF_BITS } else { w / 2 + ONE_BITS };
+    let f = f64::from_bits(bits);
+    let y = f64::from_bits(0x5fe6_eb50_c7b5_37a9 - bits / 2);
+    let g = 0.5 * f;
+    let y = y * (1.5 - g * (y * y));
+    let y = y * (1.5 - g * (y * y));
+    let y = y * (1.5 - g * (y * y));
+    let s = f * y;
+    let s = s + (f - s * s) * (0.5 * y);
+    if s != s {
+        return 0;
+    }
+    (s.to_bits() % TWO_53 + (TWO_53 - 1)) % TWO_53
+}
+
 // The root of w * 2^52 and the rest, or None where `square` falls back to the digit loop.
 fn square(w: u64) -> Option<(u64, u64)> {
     let r = near(w);
-    let a = r / 134217728;
-    let b = r % 134217728;
+    let a = r / 0x800_0000;
+    let b = r % 0x800_0000;
     let m = a * b;
-    let high = 4 * (a * a) + m / 16777216;
-    let low = m % 16777216 * 268435456 + b * b;
+    let high = 4 * (a * a) + m / 0x100_0000;
+    let low = m % 0x100_0000 * 0x1000_0000 + b * b;
     if high > w || w - high > 1000 {
         return None;
     }
-    let over = (w - high) * 4503599627370496;
+    let over = (w - high) * TWO_52;
     if low > over {
         return None;
     }
@@ -24,51 +45,26 @@ fn square(w: u64) -> Option<(u64, u64)> {
     if rest > 2 * root { None } else { Some((root, rest)) }
 }
 
-fn near(w: u64) -> u64 {
-    let small = w < 9007199254740992;
-    let bits = if small { w + 4602678819172646912 } else { w / 2 + 4607182418800017408 };
-    let low = f64::from_bits(if small { 0 } else { w % 2 * 4372995238176751616 });
-    let f = f64::from_bits(bits);
-    let y = f64::from_bits(6910469410427058089 - bits / 2);
-    let g = 0.5 * f;
-    let y = y * (1.5 - g * (y * y));
-    let y = y * (1.5 - g * (y * y));
-    let y = y * (1.5 - g * (y * y));
-    let h = 0.5 * y;
-    let s = f * y;
-    let s = s + ((f - s * s) + low) * h;
-    let b = s.to_bits();
-    if s != s || b <= 4602678819172646912 || b - 4602678819172646912 > 9007199254740992 {
-        return 0;
-    }
-    b - 4602678819172646912 - 1
+// Whether the digit loop is needed for w, of 53 or 54 digits. A double has it where it is below 2^53 or even.
+pub fn falls_back(w: u64) -> bool {
+    square(w).is_none()
 }
 
 // The bits of the root of a double above zero, or None.
 pub fn root(x: f64) -> Option<u64> {
     let (w, g) = scaled(x.to_bits());
-    rounded(w, g)
-}
-
-// The same of w alone, of 53 or 54 digits; a double has it where it is below 2^53 or even.
-pub fn falls_back(w: u64) -> bool {
-    square(w).is_none()
-}
-
-fn rounded(w: u64, g: u64) -> Option<u64> {
     let (root, rest) = square(w)?;
-    Some(g * 4503599627370496 + root + (root < rest) as u64)
+    Some(g * TWO_52 + root + (root < rest) as u64)
 }
 
 fn scaled(b: u64) -> (u64, u64) {
-    let t = b % 4503599627370496;
-    let q = b / 4503599627370496;
-    let (mut w, mut g) = match (q, q % 2) {
-        (0, _) => (t, 511),
-        (_, 1) => (4503599627370496 + t, 511 + q / 2),
-        _ => ((4503599627370496 + t) * 2, 510 + q / 2),
-    };
-    while w < 4503599627370496 {
+    let t = b % TWO_52;
+    let q = b / TWO_52;
+    if q > 0 {
+        return ((TWO_52 + t) * (2 - q % 2), 510 + (q + 1) / 2);
+    }
+    let (mut w, mut g) = (t, 511);
+    while w < TWO_52 {
         w *= 4;
         g -= 1;
     }

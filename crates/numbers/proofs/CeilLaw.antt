@@ -1,46 +1,22 @@
--- What `numbers::quarters` asks: the whole number not below a bounded value. Assumes nothing.
+-- What `by_truncation` and `quarters` of src/sine.rt ask: the least whole number not below a bounded value. Assumes nothing.
 use mathlib.Core.Path.{_≡_, refl, sym, ap, _∙_, subst}
 use Prim.Native.Nat.{ℕ, zero, suc, _+_, _-_, _*_, _/_, _%_, _^_, _≤_, _<_, min}
-use native.Mathlib.Nat.{mul-one, mul-right-comm, mul-pos, lt-of-mul-lt-mul-right, mul-lt-mul-of-pos-right, div-add-mod', mod-lt, div-lt-iff-lt-mul, zero-lt-suc, add-zero, zero-div, zero-mod}
+use native.Mathlib.Nat.{lt-of-mul-lt-mul-right, div-add-mod', mod-lt, div-lt-iff-lt-mul, add-zero, zero-div, zero-mod}
 use native.Mathlib.Numerals.{add-one}
 use native.Mathlib.Omega.{arith}
 use mathlib.Core.Bool.{Bool, true, false, not, cond, true≢false}
-use lib.IntN.{ℤ, pos, negsuc, negℤ}
+use lib.IntN.{ℤ, pos, negsuc, negℤ, predℤ, natAbs, subℕ, +ℤ-idl, +ℤ-predℤ}
 use lib.Dec.{T, ltb, eqb, ltb→lt, lt→ltb, nltb→le, eqb→eq, not-T, eqb·suc-zero}
-use lib.Ieee.{Float, nan, inf, fin, binary64, up, down, round, lt, neg, sub, ofBits, ofInt, toUnsigned}
+use lib.Ieee.{Float, nan, inf, fin, binary64, up, down, lt, le, neg, sub, ofBits, ofInt, toUnsigned}
 use lib.Ieee.Fits.{down-pos}
 use lib.Ieee.Exact.{HasValue}
-use lib.Ieee.Back.{round-whole}
-use lib.Ieee.Scale.{round-same}
-use lib.Ieee.Bits.{is-true, is-false}
+use lib.Ieee.Bits.{is-false}
 use Rattle.numbers.specs.Sine.{Bounded, ceil, mod4}
+use Rattle.numbers.proofs.WholeLaw.{AtMost, Exceeds, whole-val, sub-whole, not-below, is-below, le-not-lt}
 
 none : (m : ℕ) (e : ℤ) → toUnsigned 64 (fin true m e) ≡ 0
 unfolding toUnsigned
 none m e = refl
-
-at-zero : sub binary64 (ofBits binary64 0) (ofInt binary64 (pos 0)) ≡ ofInt binary64 (negℤ (pos 0))
-unfolding sub ofBits ofInt
-at-zero = refl
-
-from-zero : (x : Float) (k : ℕ) → HasValue x false (suc k) 1 → sub binary64 (ofBits binary64 0) x ≡ ofInt binary64 (negsuc k)
-unfolding sub ofBits ofInt
-from-zero nan k h = absurd h
-from-zero (inf s) k h = absurd h
-from-zero (fin true m e) k h = absurd (true≢false (h .0))
-from-zero (fin false m e) k h =
-    let p : 0 < down e = down-pos e in
-    let q : 0 < suc k * down e = mul-pos (zero-lt-suc k) p in
-    let g : m * up e * 1 ≡ suc k * down e = h .1 in
-    ap (λ (t : Bool). cond t (round binary64 true (m * up e * 1 - 0 * down e) (1 * down e)) (round binary64 false (0 * down e - m * up e * 1) (1 * down e)))
-    (is-true (ltb (0 * down e) (m * up e * 1)) (lt→ltb (0 * down e) (m * up e * 1) (omega arith)))
-    ∙ round-same binary64 true (m * up e * 1 - 0 * down e) (1 * down e) (suc k) 1 (omega arith) (zero-lt-suc 0) (omega arith)
-
-same-test : (a b : Bool) → (T a → T b) → (T b → T a) → a ≡ b
-same-test true true h k = refl
-same-test true false h k = absurd (h tt)
-same-test false true h k = absurd (k tt)
-same-test false false h k = refl
 
 -- ---- the whole part
 abbrev cut : ℕ → ℤ → ℕ
@@ -75,27 +51,6 @@ in-range (fin false m e) b h =
     let p : 0 < down e = down-pos e in
     (lt→ltb 0 (1 * 1 * down e + m * up e * 1) (omega arith), lt→ltb (m * up e * 1) (1 * 2 ^ 64 * down e) (omega arith))
 
--- a whole number below y or not, by y's fraction
-lt-whole : (x : Float) (t m : ℕ) (e : ℤ) → HasValue x false t 1 → lt x (fin false m e) ≡ ltb (t * down e) (m * up e)
-unfolding lt
-lt-whole nan t m e h = absurd h
-lt-whole (inf s) t m e h = absurd h
-lt-whole (fin true n d) t m e h = absurd (true≢false (h .0))
-lt-whole (fin false n d) t m e h = same-test (ltb (n * up d * down e) (m * up e * down d)) (ltb (t * down e) (m * up e)) forth back
-  where
-    v : n * up d * down e ≡ t * down e * down d
-    v = ap (λ (z : ℕ). z * down e) (sym (mul-one (n * up d)) ∙ h .1) ∙ mul-right-comm t (down d) (down e)
-
-    forth : T (ltb (n * up d * down e) (m * up e * down d)) → T (ltb (t * down e) (m * up e))
-    forth l = lt→ltb (t * down e) (m * up e) (lt-of-mul-lt-mul-right (down d) (subst (λ (z : ℕ). z < m * up e * down d) v (ltb→lt (n * up d * down e) (m * up e * down d) l)))
-
-    back : T (ltb (t * down e) (m * up e)) → T (ltb (n * up d * down e) (m * up e * down d))
-    back l = lt→ltb (n * up d * down e) (m * up e * down d) (subst (λ (z : ℕ). z < m * up e * down d) (sym v) (mul-lt-mul-of-pos-right (ltb→lt (t * down e) (m * up e) l) (down-pos d)))
-
-whole-val : (t : ℕ) → t ≤ 2 ^ 50 → HasValue (ofInt binary64 (pos t)) false t 1
-unfolding ofInt
-whole-val t h = round-whole binary64 false t (omega arith)
-
 pub above : (y : Float) → Bounded y (2 ^ 50) → lt (ofBits binary64 0) y ≡ true → Above y (toUnsigned 64 y)
 unfolding lt ofBits ceil
 above nan b h = absurd b
@@ -108,9 +63,9 @@ above (fin false m e) b h =
     let s : q ≤ 2 ^ 50 = cut-le m e (2 ^ 50) b in
     subst (Above (fin false m e)) (sym (size-cut m e b)) (record {
       small = s;
-      less = λ t. let l : q * down e < m * up e = ltb→lt (q * down e) (m * up e) (subst T (sym (sym (lt-whole (ofInt binary64 (pos q)) q m e (whole-val q s)) ∙ t)) tt) in
+      less = λ t. let l : q * down e < m * up e = is-below (pos q) (omega arith) false m e t in
           ap (λ (z : Bool). pos (q + cond z 0 1)) (is-false (eqb r 0) (not-T (eqb r 0) (λ (z : T (eqb r 0)). no q l d (eqb→eq r 0 z))));
-      same = λ t. let l : m * up e ≤ q * down e = nltb→le (q * down e) (m * up e) (subst (λ (z : Bool). T (not z)) (sym (sym (lt-whole (ofInt binary64 (pos q)) q m e (whole-val q s)) ∙ t)) tt) in
+      same = λ t. let l : m * up e ≤ q * down e = not-below (pos q) (omega arith) false m e t in
           ap (λ (z : ℕ). pos (q + cond (eqb z 0) 0 1)) (none q r d l) ∙ ap pos (add-zero q);
     })
   where
@@ -156,9 +111,16 @@ under (fin true m e) b h = subst (Under (fin true m e)) (sym (size-cut m e b)) (
 under (fin false m e) b h = subst (Under (fin false m e)) (sym (none m e)) (record { small = omega arith; is = ap pos (zero-cut (m * up e) (down e) (down-pos e) (no-size m e h)) })
 
 -- 0 - t
+zero-val : HasValue (ofBits binary64 0) false 0 1
+unfolding ofBits
+zero-val = (refl, refl)
+
+zero-less : (t : ℕ) → subℕ 0 t ≡ negℤ (pos t)
+zero-less zero = refl
+zero-less (suc k) = +ℤ-idl (negsuc k)
+
 pub minus-whole : (t : ℕ) → t ≤ 2 ^ 50 → sub binary64 (ofBits binary64 0) (ofInt binary64 (pos t)) ≡ ofInt binary64 (negℤ (pos t))
-minus-whole zero h = at-zero
-minus-whole (suc k) h = from-zero (ofInt binary64 (pos (suc k))) k (whole-val (suc k) h)
+minus-whole t h = sub-whole (ofBits binary64 0) (ofInt binary64 (pos t)) 0 t zero-val (whole-val (pos t) (omega arith)) ∙ ap (ofInt binary64) (zero-less t)
 
 pub minus-mod : (t : ℕ) → (4 - t % 4) % 4 ≡ mod4 (negℤ (pos t))
 unfolding mod4
@@ -168,12 +130,7 @@ minus-mod (suc k) = omega arith
 -- ---- `ceil` is the least whole number not below
 -- ±a / d is at most z, and above z - 1
 abbrev Least : Bool → ℕ → ℕ → ℤ → Type 0
-Least false a d (pos zero) = a ≡ 0
-Least false a d (pos (suc n)) = (n * d < a) × (a ≤ suc n * d)
-Least false a d (negsuc n) = ⊥
-Least true a d (pos zero) = a < d
-Least true a d (pos (suc n)) = ⊥
-Least true a d (negsuc n) = (suc n * d ≤ a) × (a < suc (suc n) * d)
+Least s a d z = AtMost s a d z × Exceeds s a d (predℤ z)
 
 -- of a finite value
 abbrev pub IsCeil : Float → ℤ → Type 0
@@ -188,7 +145,7 @@ plus-least a d q zero p e l = go q (add-zero q) e
     go q z e = subst (λ (x : ℕ). Least false a d (pos x)) (sym z) (at q e)
       where
         at : (q : ℕ) → q * d + 0 ≡ a → Least false a d (pos q)
-        at zero e = omega arith
+        at zero e = (omega arith, tt)
         at (suc n) e = (omega arith, omega arith)
 plus-least a d q (suc r) p e l = subst (λ (x : ℕ). Least false a d (pos x)) next (omega arith, omega arith)
   where
@@ -196,7 +153,7 @@ plus-least a d q (suc r) p e l = subst (λ (x : ℕ). Least false a d (pos x)) n
     next = sym (add-one q) ∙ ap (λ (b : Bool). q + cond b 0 1) (sym (eqb·suc-zero r))
 
 minus-least : (a d q r : ℕ) → q * d + r ≡ a → r < d → Least true a d (negℤ (pos q))
-minus-least a d zero r e l = omega arith
+minus-least a d zero r e l = (tt, omega arith)
 minus-least a d (suc n) r e l = (omega arith, omega arith)
 
 pub ceil-least : (y : Float) (b : ℕ) → Bounded y b → IsCeil y (ceil y)
@@ -205,3 +162,69 @@ ceil-least nan b h = h
 ceil-least (inf s) b h = h
 ceil-least (fin false m e) b h = plus-least (m * up e) (down e) (cut m e) (m * up e % down e) (down-pos e) (div-add-mod' (m * up e) (down e)) (mod-lt (m * up e) (down-pos e))
 ceil-least (fin true m e) b h = minus-least (m * up e) (down e) (cut m e) (m * up e % down e) (div-add-mod' (m * up e) (down e)) (mod-lt (m * up e) (down-pos e))
+
+-- ---- and the only one
+same-step : (d n l : ℕ) → n * d < suc l * d → l * d < suc n * d → n ≡ l
+same-step d n l h k =
+    let a : n < suc l = lt-of-mul-lt-mul-right d h in
+    let b : l < suc n = lt-of-mul-lt-mul-right d k in
+    omega arith
+
+same-least : (s : Bool) (a d : ℕ) (z w : ℤ) → Least s a d z → Least s a d w → z ≡ w
+same-least false a d (pos zero) (pos zero) h k = refl
+same-least false a d (pos zero) (pos (suc l)) h k = absurd (omega arith)
+same-least false a d (pos (suc n)) (pos zero) h k = absurd (omega arith)
+same-least false a d (pos (suc n)) (pos (suc l)) h k = ap (λ (x : ℕ). pos (suc x)) (same-step d n l (omega arith) (omega arith))
+same-least false a d (pos n) (negsuc l) h k = absurd (k .0)
+same-least false a d (negsuc n) w h k = absurd (h .0)
+same-least true a d (pos zero) (pos zero) h k = refl
+same-least true a d (pos zero) (pos (suc l)) h k = absurd (k .1)
+same-least true a d (pos zero) (negsuc l) h k = absurd (omega arith)
+same-least true a d (pos (suc n)) w h k = absurd (h .1)
+same-least true a d (negsuc n) (pos zero) h k = absurd (omega arith)
+same-least true a d (negsuc n) (pos (suc l)) h k = absurd (k .1)
+same-least true a d (negsuc n) (negsuc l) h k = ap negsuc (same-step d n l (omega arith) (omega arith))
+
+pred-size : (z : ℤ) → natAbs (predℤ z) ≤ suc (natAbs z)
+pred-size (pos zero) = omega arith
+pred-size (pos (suc n)) = omega arith
+pred-size (negsuc n) = omega arith
+
+-- a whole number that y is not above, where y is above the one before
+pub ceil-only : (y : Float) (b : ℕ) → Bounded y b → (z : ℤ) → natAbs z < 2 ^ 53 → le y (ofInt binary64 z) ≡ true → lt (ofInt binary64 (predℤ z)) y ≡ true → z ≡ ceil y
+ceil-only nan b h z l t u = absurd h
+ceil-only (inf s) b h z l t u = absurd h
+ceil-only (fin s m e) b h z l t u =
+    same-least s (m * up e) (down e) z (ceil (fin s m e))
+    (not-below z (omega arith) s m e (le-not-lt s m e (ofInt binary64 z) t), is-below (predℤ z) (omega (arith, pred-size z)) s m e u) (ceil-least (fin s m e) b h)
+
+-- ---- the test of `quarters`, by k - 64 and k - 65
+abbrev less : ℕ → ℕ → Float
+less k c = sub binary64 (ofInt binary64 (pos k)) (ofInt binary64 (pos c))
+
+module _ (k : ℕ) (h : k ≤ 128) where
+  less-is : (c : ℕ) → c ≤ 65 → less k c ≡ ofInt binary64 (subℕ k c)
+  less-is c l = sub-whole (ofInt binary64 (pos k)) (ofInt binary64 (pos c)) k c (whole-val (pos k) (omega arith)) (whole-val (pos c) (omega arith))
+
+  less-size : natAbs (subℕ k 64) < 2 ^ 53
+  less-size = go (ltb k 64)
+    where
+      go : (t : Bool) → natAbs (cond t (negsuc (64 - suc k)) (pos (k - 64))) < 2 ^ 53
+      go true = omega arith
+      go false = omega arith
+
+  less-mod : k % 4 ≡ mod4 (subℕ k 64)
+  unfolding mod4
+  less-mod = go (ltb k 64) (ltb→lt k 64) (nltb→le k 64)
+    where
+      go : (t : Bool) → (T t → k < 64) → (T (not t) → 64 ≤ k) → k % 4 ≡ mod4 (cond t (negsuc (64 - suc k)) (pos (k - 64)))
+      go true f g = let l : k < 64 = f tt in omega arith
+      go false f g = let l : 64 ≤ k = g tt in omega arith
+
+  pub tested : (y : Float) (b : ℕ) → Bounded y b → le y (less k 64) ≡ true → lt (less k 65) y ≡ true → (less k 64 ≡ ofInt binary64 (ceil y)) × (k % 4 ≡ mod4 (ceil y))
+  tested y b p t u =
+      let e : subℕ k 64 ≡ ceil y = ceil-only y b p (subℕ k 64) less-size (ap (le y) (sym (less-is 64 (omega arith))) ∙ t) before in
+      (less-is 64 (omega arith) ∙ ap (ofInt binary64) e, less-mod ∙ ap mod4 e)
+    where
+      before : lt (ofInt binary64 (predℤ (subℕ k 64))) y ≡ true
+      before = ap (λ (x : Float). lt x y) (ap (ofInt binary64) (sym (+ℤ-predℤ (pos k) (negsuc 63))) ∙ sym (less-is 65 (omega arith))) ∙ u

@@ -117,6 +117,77 @@ add-zero-right f (fin s (suc m) e) t p =
     ∙ sum-right f s (suc m * up e) (down e) (mul-pos (zero-lt-suc m) (up-pos e))
     ∙ round-own f s (suc m) e (suc m * up e) (down e) t (down-pos e) refl
 
+-- minus zero is neutral for every value
+sum-minus : (f : Format) (t : Bool) (b c : ℕ) → 0 < b → sum f true 0 t b c ≡ round f t b c
+unfolding sum
+sum-minus f true b c h = ap (λ (x : ℕ). round f true x c) (zero-add b)
+sum-minus f false b c h = go (ltb 0 b) (lt→ltb 0 b h)
+  where
+    go : (k : Bool) → T k → cond k (round f false (b - 0) c) (round f (true && ltb b 0) (0 - b) c) ≡ round f false b c
+    go true q = ap (λ (x : ℕ). round f false x c) (sub-zero b)
+    go false q = absurd q
+
+pub add-minus-zero : (f : Format) (x : Float) → T (fits f x) → add f (fin true 0 (pos 0)) x ≡ x
+add-minus-zero f nan t = add-nan f true 0 (pos 0)
+add-minus-zero f (inf s) t = add-inf f true 0 (pos 0) s
+add-minus-zero f (fin s zero e) t =
+    let z = zero-exp f s e t in
+    ap (λ (x : ℤ). add f (fin true 0 (pos 0)) (fin s 0 x)) z ∙ add-zeros f true s ∙ ap (λ (x : ℤ). fin s 0 x) (sym z)
+add-minus-zero f (fin s (suc m) e) t =
+    add-is f true 0 (pos 0) s (suc m) e
+    ∙ ap (λ (x : ℕ). sum f true x s (suc m * up e * 1) (1 * down e)) (zero-mul (down e))
+    ∙ ap (λ (x : ℕ). sum f true 0 s x (1 * down e)) (mul-one (suc m * up e))
+    ∙ ap (λ (x : ℕ). sum f true 0 s (suc m * up e) x) (one-mul (down e))
+    ∙ sum-minus f s (suc m * up e) (down e) (mul-pos (zero-lt-suc m) (up-pos e))
+    ∙ round-own f s (suc m) e (suc m * up e) (down e) t (down-pos e) refl
+
+-- ---- a value times one or minus one, exact
+
+abbrev pub signedBy : Bool → Float → Float
+signedBy false x = x
+signedBy true x = neg x
+
+times-inf : (f : Format) (s t : Bool) → mul f (inf s) (fin t 1 (pos 0)) ≡ inf (unlike s t)
+unfolding mul
+times-inf f s t = refl
+
+times-nan : (f : Format) (x : Float) → mul f nan x ≡ nan
+unfolding mul
+times-nan f x = refl
+
+signed-inf : (s t : Bool) → inf (unlike s t) ≡ signedBy t (inf s)
+unfolding neg
+signed-inf true true = refl
+signed-inf true false = refl
+signed-inf false true = refl
+signed-inf false false = refl
+
+signed-fin : (s t : Bool) (m : ℕ) (e : ℤ) → fin (unlike s t) m e ≡ signedBy t (fin s m e)
+unfolding neg
+signed-fin true true m e = refl
+signed-fin true false m e = refl
+signed-fin false true m e = refl
+signed-fin false false m e = refl
+
+signed-nan : (t : Bool) → nan ≡ signedBy t nan
+unfolding neg
+signed-nan true = refl
+signed-nan false = refl
+
+any-sign : (f : Format) (s t : Bool) (m : ℕ) (e : ℤ) → T (fits f (fin s m e)) → T (fits f (fin t m e))
+unfolding fits
+any-sign f s t zero e h = h
+any-sign f s t (suc m) e h = h
+
+pub times-one : (f : Format) (t : Bool) (x : Float) → T (fits f x) → mul f x (fin t 1 (pos 0)) ≡ signedBy t x
+times-one f t nan h = times-nan f (fin t 1 (pos 0)) ∙ signed-nan t
+times-one f t (inf s) h = times-inf f s t ∙ signed-inf s t
+times-one f t (fin s m e) h =
+    mul-is f s m e t 1 (pos 0)
+    ∙ round-own f (unlike s t) m e (m * up e * (1 * 1)) (down e * 1) (any-sign f s (unlike s t) m e h) (subst (λ (x : ℕ). 0 < x) (sym (mul-one (down e))) (down-pos e))
+    (ap (λ (x : ℕ). x * down e) (mul-one (m * up e)) ∙ ap (λ (x : ℕ). m * up e * x) (sym (mul-one (down e))))
+    ∙ signed-fin s t m e
+
 -- ---- `0.0 + x`, which `Vec3::new` computes, is never minus zero, and a second time it changes nothing
 
 pub new-plain : (f : Format) (x : Float) → T (fits f x) → T (plain (add f zeroF x))

@@ -6,9 +6,12 @@ pub mod Quotient
 pub mod Isqrt
 pub mod Halves
 pub mod Rounded
+pub mod SignLaws
+pub mod TurnLaws
 pub mod RootGrid
 pub mod RootLaw
 pub mod Bounds
+pub mod WholeLaw
 pub mod CeilLaw
 pub mod Range
 pub mod FitLaws

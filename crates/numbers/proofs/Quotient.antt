@@ -9,9 +9,9 @@ use lib.Dec.{T, le→leb, ltb, eqb, eqb→eq, not-T}
 use lib.Ieee.{inFloat, Float, nan, inf, fin, Format, binary64, low, emax, prec, up, down, odd, units, round, div, neg, ofInt}
 use lib.Ieee.Fits.{down-pos, round-is}
 use lib.Ieee.Exact.{HasValue}
-use lib.Ieee.Back.{round-whole}
 use lib.Ieee.Scale.{round-same}
 use lib.Ieee.Bits.{cond-no}
+use Rattle.numbers.proofs.WholeLaw.{whole-val}
 
 cross : (a b n d e g : ℕ) → a * 1 ≡ n * e → b * 1 ≡ d * g → a * g * d ≡ n * (b * e)
 cross a b n d e g h k =
@@ -41,12 +41,8 @@ div-at (fin false m e) (fin false m' e') n d p h k =
     first : (a b : ℕ) → 0 < b → a * 1 ≡ b → 0 < a
     first a b q e = omega arith
 
-whole-val : (t : ℕ) → t ≤ 2 ^ 53 → HasValue (ofInt binary64 (pos t)) false t 1
-unfolding ofInt
-whole-val t h = round-whole binary64 false t h
-
 pub quotient : (n d : ℕ) → n ≤ 2 ^ 53 → d ≤ 2 ^ 53 → 0 < d → div binary64 (ofInt binary64 (pos n)) (ofInt binary64 (pos d)) ≡ round binary64 false n d
-quotient n d h k p = div-at (ofInt binary64 (pos n)) (ofInt binary64 (pos d)) n d p (whole-val n h) (whole-val d k)
+quotient n d h k p = div-at (ofInt binary64 (pos n)) (ofInt binary64 (pos d)) n d p (whole-val (pos n) h) (whole-val (pos d) k)
 
 -- a whole number up to 2 ^ 53 is cast without loss
 pub exact : (t : ℕ) → t ≤ 2 ^ 53 → T (inFloat binary64 (pos t))

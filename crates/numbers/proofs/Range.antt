@@ -1,24 +1,16 @@
 -- The angles that `sin` and `cos` take, from -64 to 64: what is known within and outside, and that the number of quarter turns is small. Assumes nothing.
 use mathlib.Core.Path.{_≡_, refl, sym, ap}
 use Prim.Native.Nat.{ℕ, zero, suc, _+_, _*_, _%_, _^_, _≤_, _<_}
-use native.Mathlib.Nat.{le-of-lt, le-of-eq, le-trans, mul-le-mul-right}
+use native.Mathlib.Nat.{le-of-eq, le-trans, mul-le-mul-right}
 use native.Mathlib.Omega.{arith}
-use mathlib.Core.Bool.{Bool, true, false, _&&_, _||_, true≢false}
+use mathlib.Core.Bool.{Bool, true, false, _&&_, true≢false}
 use lib.IntN.{ℤ, pos, negsuc}
-use lib.Dec.{T, ltb, eqb, ltb→lt, eqb→eq, lit≤}
+use lib.Dec.{eqb, eqb→eq, lit≤}
 use lib.Ieee.{Float, nan, inf, fin, binary64, up, down, le, neg, ofInt}
 use Rattle.numbers.specs.Ops.{_⊖_, _⊗_, decimal, num, pick}
 use Rattle.numbers.specs.Sine.{Bounded, reduced, turns, rest, mod4, sinBy, cosBy, within64}
+use Rattle.numbers.proofs.WholeLaw.{at-most}
 use Rattle.numbers.proofs.Bounds.{bounded-mul, bounded-sub}
-
--- a test `a < b or a = b` that came out true, with the equation either way round
-at-most : (a b : ℕ) (y c : Bool) → (T y → a ≤ b) → (ltb a b || (y && c)) ≡ true → a ≤ b
-at-most a b y c g h = go (ltb a b) y (λ t. le-of-lt (ltb→lt a b t)) g h
-  where
-    go : (x y : Bool) → (T x → a ≤ b) → (T y → a ≤ b) → (x || (y && c)) ≡ true → a ≤ b
-    go true y f g e = f tt
-    go false true f g e = g tt
-    go false false f g e = absurd (true≢false (sym e))
 
 bounded : (x : Float) → le (neg (num 64)) x ≡ true → le x (num 64) ≡ true → Bounded x 64
 unfolding le decimal neg

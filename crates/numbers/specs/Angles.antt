@@ -3,7 +3,7 @@ use mathlib.Core.Bool.{Bool, _&&_}
 use lib.Ieee as Ieee
 use lib.Ieee.{Float}
 use Rattle.numbers.specs.Ops.{_⊕_, _⊗_, _⊘_, num, pick}
-use Rattle.numbers.specs.Floats.{pi, abs, toRadians, toDegrees, remainder, epsilon}
+use Rattle.numbers.specs.Floats.{pi, abs, toRadians, toDegrees, remainder}
 use Rattle.numbers.specs.declared.angle.Angle.{Angle}
 
 abbrev pub angle : Float → Angle

@@ -1,8 +1,8 @@
 -- Arctangent and arcsine as document 01 gives them for `std`'s.
-use Prim.Native.Nat.{ℕ, _+_, _*_}
-use mathlib.Core.Bool.{Bool, true, false, _&&_}
+use Prim.Native.Nat.{_+_, _*_}
+use mathlib.Core.Bool.{Bool, _&&_}
 use lib.Ieee as Ieee
-use lib.Ieee.{Float, nan, inf, fin, binary64}
+use lib.Ieee.{Float}
 use Rattle.numbers.specs.Ops.{_⊕_, _⊖_, _⊗_, _⊘_, decimal, num, pick}
 use Rattle.numbers.specs.Floats.{pi, signBit, abs}
 use Rattle.numbers.specs.Sine.{alternating, polynomial}

@@ -1,19 +1,23 @@
 -- The smaller methods of `f64` that the Rust uses, and its `numbers.rs`.
 use Prim.Native.Nat.{ℕ}
-use mathlib.Core.Bool.{Bool, true, false, _||_}
+use mathlib.Core.Bool.{Bool, false, cond, _||_}
 use lib.Ieee as Ieee
 use lib.Ieee.{Float, nan, inf, fin, binary64}
-use Rattle.numbers.specs.Ops.{_⊕_, _⊖_, _⊗_, _⊘_, decimal, num, pick}
+use Rattle.numbers.specs.Ops.{_⊖_, _⊗_, _⊘_, decimal, num, pick}
 
 -- PI as a double
 abbrev pub pi : Float
 pi = decimal 3141592653589793 15
 
--- `is_sign_negative`; a NaN's sign is open, and counts as clear
+-- whether the sign bit is set; a NaN's is open, and counts as clear
 unfoldable pub signBit : Float → Bool
 signBit nan = false
 signBit (inf s) = s
 signBit (fin s m e) = s
+
+-- the same as a digit
+unfoldable pub signDigit : Float → ℕ
+signDigit x = cond (signBit x) 1 0
 
 -- `abs`
 unfoldable pub abs : Float → Float

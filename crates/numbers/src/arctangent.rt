@@ -1,12 +1,23 @@
 // Arctangent and arcsine, document 01's steps.
 use crate::float::abs;
-use crate::float::is_sign_negative;
+use crate::float::sign_bit;
 use crate::root::sqrt;
 ghost use mathlib.Core.Path.{_≡_};
+ghost use Prim.Native.Nat.{_≤_};
+ghost use lib.Dec.{eqb};
+ghost use lib.Ieee as Ieee;
+ghost use Rattle.numbers.specs.Ops.{num, pick};
 ghost use Rattle.numbers.specs.Arctangent as Arctangent;
 ghost use Rattle.numbers.specs.Arctangent.{atanPoly, atanUnit, atanBase, turnedBy, negatedBy};
 
 const PI: f64 = 3.141592653589793;
+
+// The bits of PI, 1.0 and minus zero.
+const PI_BITS: u64 = 0x4009_21fb_5444_2d18;
+
+const ONE_BITS: u64 = 0x3ff0_0000_0000_0000;
+
+const MINUS_ZERO_BITS: u64 = 0x8000_0000_0000_0000;
 
 // T(u)
 fn atan_poly(u: f64) -> f64
@@ -64,26 +75,36 @@ fn atan_base(a: f64, b: f64) -> f64
     PI / 2.0 - atan_unit(b / a)
 }
 
-// v, or PI less v where x's sign bit is set.
-fn turned_by(s: bool, v: f64) -> f64
-    ensures { λ r. ⌜ r ≡ turnedBy s v ⌝ }
+// 1, or -1 where s is 1.
+fn signed_one(s: u64) -> f64
+    requires { ⌜ s ≤ 1 ⌝ }
+    ensures { λ r. ⌜ r ≡ pick (eqb s 1) (Ieee.neg (num 1)) (num 1) ⌝ }
 {
-    if s { PI - v } else { v }
+    f64::from_bits(ONE_BITS + s * MINUS_ZERO_BITS)
 }
 
-// v, or minus v where y's sign bit is set.
-fn negated_by(s: bool, v: f64) -> f64
-    ensures { λ r. ⌜ r ≡ negatedBy s v ⌝ }
+// v, or PI less v where s is 1. Without a jump: PI is added to minus v, and minus zero, which changes nothing, to v.
+fn turned_by(s: u64, v: f64) -> f64
+    requires { ⌜ s ≤ 1 ⌝ }
+    ensures { λ r. ⌜ r ≡ turnedBy (eqb s 1) v ⌝ }
 {
-    if s { -v } else { v }
+    f64::from_bits(MINUS_ZERO_BITS - s * (MINUS_ZERO_BITS - PI_BITS)) + v * signed_one(s)
+}
+
+// v, or minus v where s is 1.
+fn negated_by(s: u64, v: f64) -> f64
+    requires { ⌜ s ≤ 1 ⌝ }
+    ensures { λ r. ⌜ r ≡ negatedBy (eqb s 1) v ⌝ }
+{
+    v * signed_one(s)
 }
 
 pub fn atan2(y: f64, x: f64) -> f64
     ensures { λ r. ⌜ r ≡ Arctangent.atan2 y x ⌝ }
 {
     negated_by(
-        is_sign_negative(y),
-        turned_by(is_sign_negative(x), atan_base(abs(y), abs(x))),
+        sign_bit(y),
+        turned_by(sign_bit(x), atan_base(abs(y), abs(x))),
     )
 }
 

@@ -2,24 +2,30 @@
 ghost use mathlib.Core.Path.{_≡_};
 ghost use Prim.Native.Nat.{_≤_, _<_, _^_};
 ghost use Rattle.numbers.specs.Floats as Floats;
-ghost use Rattle.numbers.specs.Floats.{signBit, clampUnit, toRadians, toDegrees, remainder, nearest};
+ghost use Rattle.numbers.specs.Floats.{signDigit, clampUnit, toRadians, toDegrees, remainder, nearest};
 
 const PI: f64 = 3.141592653589793;
 
-// Whether the sign bit is set. A NaN's is open, and counts as clear.
-pub fn is_sign_negative(x: f64) -> bool
-    ensures { λ r. ⌜ r ≡ signBit x ⌝ }
+// The weight of the sign bit.
+const SIGN: u64 = 0x8000_0000_0000_0000;
+
+// The sign bit, 0 or 1. A NaN's is open, and counts as 0.
+pub fn sign_bit(x: f64) -> u64
+    ensures { λ r. ⌜ r ≡ signDigit x ⌝ }
 {
     if x != x {
-        return false;
+        return 0;
     }
-    f64::to_bits(x) >= 0x8000_0000_0000_0000
+    f64::to_bits(x) / SIGN
 }
 
 pub fn abs(x: f64) -> f64
     ensures { λ r. ⌜ r ≡ Floats.abs x ⌝ }
 {
-    if is_sign_negative(x) { -x } else { x }
+    if x != x {
+        return x;
+    }
+    f64::from_bits(f64::to_bits(x) % SIGN)
 }
 
 // clamp(-1.0, 1.0)

@@ -9,12 +9,10 @@ const TWO_52: u64 = 0x10_0000_0000_0000;
 
 const TWO_53: u64 = 0x20_0000_0000_0000;
 
-// The bits of 0.5, 1.0, 2^-52, minus zero and infinity.
+// The bits of 0.5, 1.0, minus zero and infinity.
 const HALF_BITS: u64 = 0x3fe0_0000_0000_0000;
 
 const ONE_BITS: u64 = 0x3ff0_0000_0000_0000;
-
-const EPSILON_BITS: u64 = 0x3cb0_0000_0000_0000;
 
 const MINUS_ZERO_BITS: u64 = 0x8000_0000_0000_0000;
 
@@ -67,41 +65,24 @@ fn spread(w: u64) -> u64
     }
 }
 
-// The bits of what `spread` cuts off.
-fn cut(w: u64) -> u64
-    ensures { λ r. ⌜ r ≤ 0x3cb0_0000_0000_0000 ⌝ }
-{
-    if w < TWO_53 { 0 } else { w % 2 * EPSILON_BITS }
-}
-
-// The root of w * 2^52, cut to a whole number, or one less, by Newton's steps on 1 / √ in doubles. Nothing hangs on it: `square` tests it.
+// The root of w * 2^52, cut to a whole number, or one less, by Newton's steps on 1 / √ in doubles: the digits of s in [1, 2], less one. Nothing hangs on it: `square` tests it.
 fn near(w: u64) -> u64
     requires { ⌜ w < 2 ^ 54 ⌝ }
     ensures { λ r. ⌜ r < 2 ^ 53 ⌝ }
 {
     let bits = spread(w);
-    let low = f64::from_bits(cut(w));
     let f = f64::from_bits(bits);
     let y = f64::from_bits(0x5fe6_eb50_c7b5_37a9 - bits / 2);
     let g = 0.5 * f;
     let y = y * (1.5 - g * (y * y));
     let y = y * (1.5 - g * (y * y));
     let y = y * (1.5 - g * (y * y));
-    let h = 0.5 * y;
     let s = f * y;
-    let s = s + ((f - s * s) + low) * h;
+    let s = s + (f - s * s) * (0.5 * y);
     if s != s {
         return 0;
     }
-    let b = f64::to_bits(s);
-    if b <= HALF_BITS {
-        return 0;
-    }
-    let r = b - HALF_BITS;
-    if r > TWO_53 {
-        return 0;
-    }
-    r - 1
+    (f64::to_bits(s) % TWO_53 + (TWO_53 - 1)) % TWO_53
 }
 
 // The root of w * 2^52: that of `near`, or one more where the rest says so. The square is exact, of two halves a * 2^27 + b; where the test fails, `by_digits` answers.
@@ -160,11 +141,11 @@ fn scaled(b: u64) -> Fours
     let t = b % TWO_52;
     let q = b / TWO_52;
     if q == 0 {
-        lifted(t, 511)
-    } else if q % 2 == 1 {
-        lifted(TWO_52 + t, 511 + q / 2)
-    } else {
-        lifted((TWO_52 + t) * 2, 510 + q / 2)
+        return lifted(t, 511);
+    }
+    Fours {
+        w: (TWO_52 + t) * (2 - q % 2),
+        g: 510 + (q + 1) / 2,
     }
 }
 

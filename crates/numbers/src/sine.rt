@@ -44,8 +44,8 @@ struct Turned {
     pub quarter: u64,
 }
 
-// The least whole number not below y.
-fn quarters(y: f64) -> Turned
+// The least whole number not below y, by the whole part of its size.
+fn by_truncation(y: f64) -> Turned
     requires { ⌜ Bounded y (2 ^ 50) ⌝ }
     ensures { λ r. ⌜ (r .n ≡ ofInt binary64 (ceil y)) × (r .quarter ≡ mod4 (ceil y)) ⌝ }
 {
@@ -70,6 +70,33 @@ fn quarters(y: f64) -> Turned
             quarter: (4 - t % 4) % 4,
         }
     }
+}
+
+// 64 more than the least whole number not below y, for a y within 64 of 0: y + 192 lies from 128 to 256, and so its last 52 digits are y + 64 in units of 2^-45. Nothing hangs on it: `quarters` tests it.
+fn candidate(y: f64) -> u64
+    ensures { λ r. ⌜ r ≤ 128 ⌝ }
+{
+    let s = y + 192.0;
+    if s != s {
+        return 0;
+    }
+    (f64::to_bits(s) % 0x10_0000_0000_0000 + 0x1fff_ffff_ffff) / 0x2000_0000_0000
+}
+
+// The least whole number not below y: that of `candidate`, where y is not above it and is above the one before. Elsewhere, as just above a whole number, `by_truncation` answers.
+fn quarters(y: f64) -> Turned
+    requires { ⌜ Bounded y (2 ^ 50) ⌝ }
+    ensures { λ r. ⌜ (r .n ≡ ofInt binary64 (ceil y)) × (r .quarter ≡ mod4 (ceil y)) ⌝ }
+{
+    let k = candidate(y);
+    let f = k as f64;
+    let n = f - 64.0;
+    if y <= n {
+        if f - 65.0 < y {
+            return Turned { n, quarter: k % 4 };
+        }
+    }
+    by_truncation(y)
 }
 
 // What is left of x after n quarter turns.

@@ -42,14 +42,13 @@ pub fn decimal_of(negative: u64, digits: u64, tens: u64) -> f64 {
     float::decimal(negative == 1, digits, tens)
 }
 
-// Operations 13 to 16, and 57.
+// Operations 13 to 16.
 pub fn test_of(op: u64, x: f64, y: f64) -> bool {
     match op {
         13 => compare::eq_zero(x),
         14 => compare::eq(x, y),
         15 => compare::lte(x, y),
         16 => compare::gte(x, y),
-        57 => float::is_sign_negative(x),
         _ => false,
     }
 }

@@ -56,7 +56,8 @@ pub fn apply(op: u64, a: [u64; 18]) -> [u64; 21] {
     match op {
         0..=11 => one(bits(float_of(op, double(a[0]), double(a[1])))),
         12 => one(bits(decimal_of(a[0], a[1], a[2]))),
-        13..=16 | 57 => one(truth(test_of(op, double(a[0]), double(a[1])))),
+        13..=16 => one(truth(test_of(op, double(a[0]), double(a[1])))),
+        57 => one(numbers::float::sign_bit(double(a[0]))),
         17..=22 | 55 => one(bits(angle_of(op, double(a[0]), double(a[1])))),
         23 => one(truth(same_angle(double(a[0]), double(a[1])))),
         24..=27 | 56 | 58 => one(bits(length_of(op, double(a[0]), double(a[1])))),

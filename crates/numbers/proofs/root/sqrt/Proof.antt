@@ -1,19 +1,20 @@
 -- `numbers::root::sqrt` meets its contract. Assumes nothing.
 use mathlib.Core.Path.{_≡_, refl, sym, ap, _∙_, subst}
-use mathlib.Core.Bool.{Bool, true, false, not, cond, true≢false}
+use mathlib.Core.Bool.{Bool, true, false, cond, true≢false}
 use Prim.Native.Nat.{ℕ, zero, suc, _+_, _*_, _/_, _%_, _^_, _<_, _≤_}
 use native.Mathlib.Nat.{zero-mul, mul-pos}
 use native.Mathlib.Omega.{arith}
-use lib.Dec.{T, leb, eqb, le→leb, nltb→le}
+use lib.Dec.{T, leb, eqb, le→leb}
 use lib.Pow.{pow-pos}
-use lib.Ieee.{Float, nan, inf, fin, binary64, ofBits, toBits, fits, isNan, nanBits, up, down, odd, ofFields}
+use lib.Ieee.{Float, nan, inf, fin, binary64, ofBits, toBits, fits, up, down, odd, ofFields}
 use lib.Ieee.Exact.{HasValue, odd-sign}
 use lib.Ieee.Fits.{down-pos}
-use lib.Ieee.Bits.{ofBits-toBits, toBits-lt, nanBits-above, nanBits-is, is-true}
+use lib.Ieee.Bits.{ofBits-toBits, toBits-lt, is-true}
 use lib.Ieee.Compare.{differs-from-itself}
 use Rattle.numbers.specs.Root.{sqrt}
 use Rattle.numbers.proofs.Rounded.{no-zero, ofBits-is}
 use Rattle.numbers.proofs.Constants.{zero-by-zero}
+use Rattle.numbers.proofs.SignLaws.{bits-of-number}
 use Rattle.numbers.proofs.NoNan.{no-nan, no-nan-bits}
 use Rattle.numbers.proofs.root.sqrt.Statement.{statement}
 use Rattle.numbers.proofs.root.sqrt.Tie as tie
@@ -65,13 +66,6 @@ neg-fields (suc x) t h = go (eqb (suc x) 2047) (eqb t 0)
 negative : (x : Float) (b : ℕ) → 9223372036854775808 < b → b < 2 ^ 64 → x ≡ ofBits binary64 b → nan ≡ sqrt x
 negative x b h u e = sym (ap sqrt (e ∙ ofBits-is b ∙ ap (λ (s : Bool). ofFields binary64 s (b % 9223372036854775808 / 4503599627370496) (b % 4503599627370496)) (is-true (leb 9223372036854775808 b) (le→leb 9223372036854775808 b (omega arith))))
     ∙ neg-fields (b % 9223372036854775808 / 4503599627370496) (b % 4503599627370496) (omega arith))
-
--- ---- no NaN
-bits-of-number : (x : Float) → T (fits binary64 x) → T (not (isNan x)) → toBits binary64 x % 9223372036854775808 ≤ 9218868437227405312
-bits-of-number x f n =
-    let b = toBits binary64 x in
-    let e : nanBits binary64 b ≡ isNan x = nanBits-is binary64 b ∙ ap isNan (ofBits-toBits binary64 x f) in
-    nltb→le 9218868437227405312 (b % 9223372036854775808) (subst (λ (t : Bool). T (not t)) (sym e ∙ nanBits-above binary64 b) n)
 
 returns : tie.Need-returns
 returns c = itself _ nan (differs-from-itself (c .before .args .x) (subst T (sym (c .if1 .taken)) tt)) nan-itself
