@@ -1,0 +1,4 @@
+pub mod PositionLaws
+pub mod FitLaws
+pub mod FrameLaws
+pub mod Examples

@@ -1,0 +1,7 @@
+pub mod Positions
+pub mod Ellipsoids
+pub mod Orientations
+pub mod Vectors
+pub mod Rotations
+pub mod Frames
+pub mod Computed
