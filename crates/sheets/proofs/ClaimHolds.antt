@@ -1,0 +1,236 @@
+-- Demand 3 holds of the definitions: of the check's and the run's answers over any sheet and readings, lent buffers of their lengths. Assumes nothing.
+use mathlib.Core.Path.{_≡_, refl, sym, ap, _∙_, subst}
+use mathlib.Core.Logic.{_↔_}
+use mathlib.Core.List.{List, [], _∷_, _++_, map}
+use mathlib.Core.Bool.{Bool, true, false, _&&_}
+use Prim.Native.Nat.{ℕ, suc, _+_, _-_, _≤_, _<_}
+use native.Mathlib.Omega.{arith}
+use lib.Dec.{T, eqb, eqb-refl}
+use lib.Ieee.Bits.{is-true}
+use lib.ListN.{length, getD, drop, List·getD-append}
+use lib.Ieee.{Float}
+use Rattle.numbers.specs.declared.vec3.Vec3.{Vec3}
+use Rattle.numbers.specs.declared.mat33.Mat33.{Mat33}
+use Rattle.numbers.proofs.FitLaws.{Fits}
+use Rattle.numbers.proofs.VecLaws.{FiniteVec, FiniteMat}
+use Rattle.frames.specs.declared.frame.LocalFrame.{LocalFrame}
+use Rattle.frames.proofs.FrameLaws.{Sound, FiniteFrame, Home, home}
+use Rattle.sheets.specs.declared.value.Value.{Value}
+use Rattle.sheets.specs.Trees.{Sheet}
+use Rattle.sheets.specs.Grammar.{Written}
+use Rattle.sheets.specs.Reader.{Form, formed, badLine, readSheet}
+use Rattle.sheets.specs.Kinds.{Kind, kindOf, kindCode}
+use Rattle.sheets.specs.Refusals.{Fault, name, kind, Stop, limit, centre, Refusal, size, lent, form, ellipsoid, fault, stop, refusalNumber}
+use Rattle.sheets.specs.Machine.{Given, State, Ran, done, stopped, stuck, machine}
+use Rattle.sheets.specs.Check.{Walked, passes, refuses, readingKinds, walk}
+use Rattle.sheets.specs.Admitted.{LinesFit}
+use Rattle.sheets.specs.Answers.{sized, ranged, Verdict, admitted, refused, ofWalked, ofRange, ofForm, ofLent, ofSize, verdict, CheckAnswer, checkOf, laid, kindsOfVerdict, lentKinds, checkAnswer, kindsAfter, RunAnswer, ranAnswer, ranText, runOf, textOf, lentRun, runAnswer, outAfter}
+use Rattle.sheets.specs.Claim.{Admits, Unstuck, namesGiven, framesMade, All, SticksAt, FiniteVec3, FiniteMat33, FrameHolds, Claim}
+use Rattle.sheets.proofs.Agree.{view, givenKind, codeOfValue}
+use Rattle.sheets.proofs.Sound.{OnLine, Later, AgreeRan, agree, all-later}
+use Rattle.sheets.proofs.LinesExact.{walk-passes, walk-admits}
+use Rattle.sheets.proofs.EveryFrame.{every-frame}
+use Rattle.sheets.proofs.SheetLaws.{sheet-reads}
+
+-- ---- what a verdict says, where what is lent has its length
+
+abbrev Says : List ℕ → Verdict → Type 0
+Says S (admitted c cs) = (ds : List ℕ) × (cs ≡ 255 ∷ ds) × Admits S c ds
+Says S (refused r j) = (f : Fault) → r ≡ fault f → (c : Sheet) × Written S c × (walk c ≡ refuses f j)
+
+no-fault : (r : Refusal) (f : Fault) → refusalNumber r < 5 → r ≡ fault f → ⊥
+no-fault r name h e = let z = ap refusalNumber e in omega arith
+no-fault r kind h e = let z = ap refusalNumber e in omega arith
+
+fault-same : (f g : Fault) → fault f ≡ fault g → f ≡ g
+fault-same f g e = cc
+
+says-walked : (S : List ℕ) (c : Sheet) (o : Walked) → sized S ≡ true → Written S c → ranged (c .head) ≡ true → walk c ≡ o → Says S (ofWalked c o)
+says-walked S c (passes ds) z w h e = (ds, refl, record { size = z; grammar = w; range = h; names-and-kinds = walk-passes c ds e })
+says-walked S c (refuses f j) z w h e = λ g p. (c, w, e ∙ ap (λ (k : Fault). refuses k j) (fault-same f g p))
+
+says-range : (S : List ℕ) (c : Sheet) (b : Bool) → sized S ≡ true → Written S c → ranged (c .head) ≡ b → Says S (ofRange b c)
+says-range S c true z w e = says-walked S c (walk c) z w e refl
+says-range S c false z w e = λ f p. absurd (no-fault ellipsoid f (omega arith) p)
+
+says-form : (S : List ℕ) (o : Form Sheet) → sized S ≡ true → readSheet S ≡ o → Says S (ofForm o)
+says-form S (formed c) z e = says-range S c (ranged (c .head)) z (sheet-reads S c .0 e) refl
+says-form S (badLine j) z e = λ f p. absurd (no-fault form f (omega arith) p)
+
+says-size : (S : List ℕ) (b : Bool) → sized S ≡ b → Says S (ofSize b true S)
+says-size S true e = says-form S (readSheet S) e refl
+says-size S false e = λ f p. absurd (no-fault size f (omega arith) p)
+
+says : (S : List ℕ) → Says S (verdict true S)
+unfolding verdict
+says S = says-size S (sized S) refl
+
+-- what is admitted is admitted by the verdict
+admits : (S : List ℕ) (c : Sheet) (ds : List ℕ) → Admits S c ds → verdict true S ≡ admitted c (255 ∷ ds)
+unfolding verdict
+admits S c ds h =
+    ap (λ (b : Bool). ofSize b true S) (h .size) ∙ ap ofForm (sheet-reads S c .1 (h .grammar)) ∙ ap (λ (b : Bool). ofRange b c) (h .range)
+    ∙ ap (ofWalked c) (walk-admits c ds (h .names-and-kinds))
+
+-- ---- an admitted sheet
+
+unstuck : (r : Ran) (o : Walked) (ds : List ℕ) → AgreeRan r o → o ≡ passes ds → Unstuck r
+unstuck (done fs s) o ds p e = tt
+unstuck (stopped fs x i s) o ds p e = tt
+unstuck (stuck fs i s) o ds p e = let h = p .1 in let z : _≡_ {A = ℕ} 0 1 = cc in absurd (omega arith)
+
+-- each name's code stands on its line
+listed : (r : Ran) (o : Walked) (ds : List ℕ) → AgreeRan r o → o ≡ passes ds → All (OnLine ds) (map givenKind (namesGiven r))
+listed (done fs s) o ds p e =
+    let h = p .0 in
+    let d : map codeOfValue (s .values) ≡ ds = cc in
+    subst (λ (cs : List ℕ). All (OnLine cs) (map givenKind (s .given))) d (p .1)
+listed (stopped fs x i s) o ds p e =
+    let l = subst (Later i (view s)) e (p .0) in
+    subst (λ (cs : List ℕ). All (OnLine cs) (map givenKind (s .given))) (sym (l .1)) (all-later (map codeOfValue (s .values)) (l .0) (map givenKind (s .given)) (p .1))
+listed (stuck fs i s) o ds p e = let h = p .1 in let z : _≡_ {A = ℕ} 0 1 = cc in absurd (omega arith)
+
+abbrev Coded : List ℕ → Given Value → Type 0
+Coded ks g = getD ks (g .line - 1) 0 ≡ kindCode (kindOf (g .value))
+
+coded : (ds t : List ℕ) (g : Given Value) → OnLine ds (givenKind g) → Coded (255 ∷ (ds ++ t)) g
+coded ds t g h =
+    let a = h .0 in
+    let b = h .1 in
+    let e : g .line - 1 ≡ suc (g .line - 2) = omega arith in
+    ap (λ (k : ℕ). getD (255 ∷ (ds ++ t)) k 0) e ∙ List·getD-append ds t 0 (g .line - 2) (omega arith) ∙ h .2
+
+all-coded : (ds t : List ℕ) (gs : List (Given Value)) → All (OnLine ds) (map givenKind gs) → All (Coded (255 ∷ (ds ++ t))) gs
+all-coded ds t [] h = tt
+all-coded ds t (g ∷ gs) h = (coded ds t g (h .0), all-coded ds t gs (h .1))
+
+-- ---- frames
+
+finite-vec : (v : Vec3) → FiniteVec3 v → FiniteVec v
+finite-vec v h = record { fin-x = h .0; fin-y = h .1; fin-z = h .2 }
+
+finite-mat : (m : Mat33) → FiniteMat33 m → FiniteMat m
+finite-mat m h = record { fin-r0 = finite-vec (m .r0) (h .0); fin-r1 = finite-vec (m .r1) (h .1); fin-r2 = finite-vec (m .r2) (h .2) }
+
+at-home : (f : LocalFrame) → Sound f → FiniteVec3 (f .origin) → FiniteMat33 (f .«dir_rm») → FiniteMat33 (f .«inv_rm») → Home f
+at-home f s o d i = home f s (record { fin-origin = finite-vec (f .origin) o; fin-dir = finite-mat (f .«dir_rm») d; fin-inv = finite-mat (f .«inv_rm») i })
+
+holds : (fs : List LocalFrame) → All Sound fs → All FrameHolds fs
+holds [] h = tt
+holds (f ∷ fs) h = (
+  record {
+    inverse = h .0 .inverse;
+    out = λ o d i. at-home f (h .0) o d i .leads-out;
+    back = λ o d i. at-home f (h .0) o d i .leads-back;
+  },
+  holds fs (h .1),
+)
+
+-- ---- a sheet refused for a name or a kind
+
+sticks-at : (r : Ran) (o : Walked) (f : Fault) (j : ℕ) → AgreeRan r o → o ≡ refuses f j → SticksAt j r
+sticks-at (done fs s) o f j p e = let h = p .0 in let z : _≡_ {A = ℕ} 0 1 = cc in absurd (omega arith)
+sticks-at (stopped fs x i s) o f j p e = subst (Later i (view s)) e (p .0)
+sticks-at (stuck fs i s) o f j p e = let h = p .1 in cc
+
+fault-number : (r : Refusal) (f : Fault) → refusalNumber r ≡ refusalNumber (fault f) → r ≡ fault f
+fault-number size name e = absurd (omega arith)
+fault-number size kind e = absurd (omega arith)
+fault-number lent name e = absurd (omega arith)
+fault-number lent kind e = absurd (omega arith)
+fault-number form name e = absurd (omega arith)
+fault-number form kind e = absurd (omega arith)
+fault-number ellipsoid name e = absurd (omega arith)
+fault-number ellipsoid kind e = absurd (omega arith)
+fault-number (fault name) name e = refl
+fault-number (fault name) kind e = absurd (omega arith)
+fault-number (fault kind) name e = absurd (omega arith)
+fault-number (fault kind) kind e = refl
+fault-number (stop limit) name e = absurd (omega arith)
+fault-number (stop limit) kind e = absurd (omega arith)
+fault-number (stop centre) name e = absurd (omega arith)
+fault-number (stop centre) kind e = absurd (omega arith)
+
+-- ---- of a verdict
+
+refusal-some : (r : Refusal) → 1 ≤ refusalNumber r
+refusal-some size = omega arith
+refusal-some lent = omega arith
+refusal-some form = omega arith
+refusal-some ellipsoid = omega arith
+refusal-some (fault name) = omega arith
+refusal-some (fault kind) = omega arith
+refusal-some (stop limit) = omega arith
+refusal-some (stop centre) = omega arith
+
+passes-admitted : (S : List ℕ) (v : Verdict) → Says S v → checkOf v .number ≡ 0 → (c : Sheet) × (codes : List ℕ) × Admits S c codes
+passes-admitted S (admitted c cs) h e = (c, h .0, h .2)
+passes-admitted S (refused r j) h e = let l = refusal-some r in absurd (omega arith)
+
+zero-fault : (f : Fault) → 0 ≡ refusalNumber (fault f) → ⊥
+zero-fault name e = omega arith
+zero-fault kind e = omega arith
+
+refusal-sticks : (S : List ℕ) (R : List Float) (v : Verdict) → Says S v → (f : Fault) → checkOf v .number ≡ refusalNumber (fault f)
+    → (c : Sheet) × Written S c × SticksAt (checkOf v .line) (machine c R)
+refusal-sticks S R (admitted c cs) h f e = absurd (zero-fault f e)
+refusal-sticks S R (refused r j) h f e =
+    let k = h f (fault-number r f e) in
+    (k .0, k .1, sticks-at (machine (k .0) R) (walk (k .0)) f j (agree (k .0) R) (k .2))
+
+-- ---- the claim
+
+equal : (m n : ℕ) → m ≡ n → eqb m n ≡ true
+equal m n e = is-true (eqb m n) (subst (λ (k : ℕ). T (eqb m k)) e (eqb-refl m))
+
+both-equal : (a b : Bool) → a ≡ true → b ≡ true → (a && b) ≡ true
+both-equal a b p q = ap (λ (x : Bool). x && b) p ∙ q
+
+module _ (S : List ℕ) (R : List Float) (kinds out : List ℕ) (k : length kinds ≡ 96) (r : length R ≡ 16) (o : length out ≡ 24576) (doubles : All Fits R) where
+  checked-is : checkAnswer S kinds ≡ checkOf (verdict true S)
+  unfolding checkAnswer
+  checked-is = ap (λ (b : Bool). checkOf (verdict b S)) (equal (length kinds) 96 k)
+
+  kinds-are : kindsAfter S kinds ≡ kindsOfVerdict (verdict true S) kinds
+  unfolding kindsAfter
+  kinds-are = ap (λ (b : Bool). kindsOfVerdict (verdict b S) kinds) (equal (length kinds) 96 k)
+
+  lent-is : lentRun R out ≡ true
+  lent-is = both-equal (eqb (length R) 16) (eqb (length out) 24576) (equal (length R) 16 r) (equal (length out) 24576 o)
+
+  ran-is : runAnswer S R out ≡ runOf (verdict true S) R
+  unfolding runAnswer
+  ran-is = ap (λ (b : Bool). runOf (verdict b S) R) lent-is
+
+  out-is : outAfter S R out ≡ laid (textOf (verdict true S) R) out
+  unfolding outAfter
+  out-is = ap (λ (b : Bool). laid (textOf (verdict b S) R) out) lent-is
+
+  -- of an admitted sheet
+  module _ (c : Sheet) (codes : List ℕ) (h : Admits S c codes) where
+    written-codes : kindsAfter S kinds ≡ laid (255 ∷ codes) kinds
+    written-codes = kinds-are ∙ ap (λ (v : Verdict). kindsOfVerdict v kinds) (admits S c codes h)
+
+    walked : walk c ≡ passes codes
+    walked = walk-admits c codes (h .names-and-kinds)
+
+    named : All (Coded (kindsAfter S kinds)) (namesGiven (machine c R))
+    named = subst (λ (ks : List ℕ). All (Coded ks) (namesGiven (machine c R))) (sym written-codes)
+        (all-coded codes (drop (length (255 ∷ codes)) kinds) (namesGiven (machine c R)) (listed (machine c R) (walk c) codes (agree c R) walked))
+
+  pub claim : Claim S R kinds (checkAnswer S kinds) (kindsAfter S kinds) out (runAnswer S R out) (outAfter S R out)
+  claim = record {
+    exactly = (
+      (λ e. passes-admitted S (verdict true S) (says S) (sym (ap (λ (a : CheckAnswer). a .number) checked-is) ∙ e)),
+      (λ h. ap (λ (a : CheckAnswer). a .number) checked-is ∙ ap (λ (v : Verdict). checkOf v .number) (admits S (h .0) (h .1) (h .2))),
+    );
+    codes-written = λ c codes h. written-codes c codes h;
+    never-sticks = λ c codes h. unstuck (machine c R) (walk c) codes (agree c R) (walked c codes h);
+    names-have-kinds = λ c codes h. named c codes h;
+    run-is-machine = λ c codes h. ran-is ∙ ap (λ (v : Verdict). runOf v R) (admits S c codes h);
+    text-is-machine's = λ c codes h. out-is ∙ ap (λ (v : Verdict). laid (textOf v R) out) (admits S c codes h);
+    frames-hold = λ c codes h. holds (framesMade (machine c R)) (every-frame c R doubles);
+    refused-sticks = λ f e.
+        let p = refusal-sticks S R (verdict true S) (says S) f (sym (ap (λ (a : CheckAnswer). a .number) checked-is) ∙ e) in
+        (p .0, p .1, subst (λ (j : ℕ). SticksAt j (machine (p .0) R)) (sym (ap (λ (a : CheckAnswer). a .line) checked-is)) (p .2));
+  }

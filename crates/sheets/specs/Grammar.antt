@@ -1,0 +1,148 @@
+-- The grammar of sheets, after document 01, "Following one sheet: its bytes".
+-- The bytes of a sheet are what its tree prints, and each part of the tree is in shape. A printer says where brackets, single spaces and line ends
+-- stand; a shape says what a part may be. Which words open an expression is no part of the grammar, nor is the size of a sheet, refusal 1.
+use mathlib.Core.Path.{_≡_}
+use mathlib.Core.Logic.{_⊎_}
+use mathlib.Core.List.{List, [], _∷_}
+use mathlib.Core.Bool.{Bool, true, false}
+use Prim.Native.Nat.{ℕ, zero, suc, _+_, _≤_}
+use lib.ListN.{length, take}
+use Rattle.sheets.specs.Text.{Word, ascii, _⌢_, lf}
+use Rattle.sheets.specs.Trees.{Num, Expr, Exprs, word-expr, num-expr, form-expr, nil, _▸_, Line, let-line, show-line, Head, wgs84, custom, Sheet}
+
+-- the bytes a to z, and 0 to 9
+abbrev pub Letter : ℕ → Type 0
+Letter c = (97 ≤ c) × (c ≤ 122)
+
+abbrev pub Digit : ℕ → Type 0
+Digit c = (48 ≤ c) × (c ≤ 57)
+
+-- every byte is such a one
+abbrev pub Each : (ℕ → Type 0) → List ℕ → Type 0
+Each P [] = Unit {0}
+Each P (c ∷ s) = P c × Each P s
+
+-- ---- WORD: a letter a-z, then up to 11 of a-z, 0-9.
+abbrev pub IsWord : Word → Type 0
+IsWord [] = ⊥
+IsWord (c ∷ w) = Letter c × Each (λ b. Letter b ⊎ Digit b) w × (length w ≤ 11)
+
+-- ---- NUM: optional `-`, 1 to 9 digits, optionally `.` and 1 to 6 digits. (Its number is said in Trees.antt.)
+abbrev pub sign : Bool → List ℕ
+sign true = ascii "-"
+sign false = []
+
+abbrev pub point : List ℕ → List ℕ
+point [] = []
+point (c ∷ s) = ascii "." ⌢ c ∷ s
+
+abbrev pub printNum : Num → List ℕ
+printNum q = sign (q .minus) ⌢ q .whole ⌢ point (q .part)
+
+abbrev pub IsNum : Num → Type 0
+IsNum q = Each Digit (q .whole) × (1 ≤ length (q .whole)) × (length (q .whole) ≤ 9) × Each Digit (q .part) × (length (q .part) ≤ 6)
+
+-- ---- EXPR is a WORD, a NUM, or `(` WORD, then no to five times a space and an EXPR, `)`.
+abbrev mutual
+  pub print : Expr → List ℕ
+  print (word-expr w) = w
+  print (num-expr q) = printNum q
+  print (form-expr w xs) = ascii "(" ⌢ w ⌢ printArgs xs
+
+  pub printArgs : Exprs → List ℕ
+  printArgs nil = ascii ")"
+  printArgs (x ▸ xs) = ascii " " ⌢ print x ⌢ printArgs xs
+
+-- an EXPR whose brackets nest at most d deep; at most k such EXPRs
+abbrev mutual
+  pub IsExpr : ℕ → Expr → Type 0
+  IsExpr d (word-expr w) = IsWord w
+  IsExpr d (num-expr q) = IsNum q
+  IsExpr zero (form-expr w xs) = ⊥
+  IsExpr (suc d) (form-expr w xs) = IsWord w × AreArgs d 5 xs
+
+  pub AreArgs : ℕ → ℕ → Exprs → Type 0
+  AreArgs d k nil = Unit {0}
+  AreArgs d zero (x ▸ xs) = ⊥
+  AreArgs d (suc k) (x ▸ xs) = IsExpr d x × AreArgs d k xs
+
+-- ---- Each line is ended by LF and has at most 200 bytes with it. Brackets nest at most 12 deep, the line's own included: 11 in its EXPR.
+
+-- Line 1 is `(ellipsoid wgs84)` or `(ellipsoid NUM NUM)`.
+abbrev pub printHead : Head → List ℕ
+printHead wgs84 = ascii "(ellipsoid wgs84)" ⌢ lf
+printHead (custom q r) = ascii "(ellipsoid " ⌢ printNum q ⌢ ascii " " ⌢ printNum r ⌢ ascii ")" ⌢ lf
+
+abbrev pub HeadParts : Head → Type 0
+HeadParts wgs84 = Unit {0}
+HeadParts (custom q r) = IsNum q × IsNum r
+
+abbrev pub IsHead : Head → Type 0
+IsHead h = HeadParts h × (length (printHead h) ≤ 200)
+
+-- Every other line is `(let WORD EXPR)` or `(show WORD)`.
+abbrev pub printLine : Line → List ℕ
+printLine (let-line w x) = ascii "(let " ⌢ w ⌢ ascii " " ⌢ print x ⌢ ascii ")" ⌢ lf
+printLine (show-line w) = ascii "(show " ⌢ w ⌢ ascii ")" ⌢ lf
+
+abbrev pub LineParts : Line → Type 0
+LineParts (let-line w x) = IsWord w × IsExpr 11 x
+LineParts (show-line w) = IsWord w
+
+abbrev pub IsLine : Line → Type 0
+IsLine l = LineParts l × (length (printLine l) ≤ 200)
+
+-- ---- Which lines may stand where. It goes by a phase: 0 directly after line 1, and then what `after` gives for the line before.
+-- Every line may stand in every phase; one that may stand only in some places has its clause here.
+unfoldable pub allowed : ℕ → Line → Bool
+allowed p (let-line w x) = true
+allowed p (show-line w) = true
+
+unfoldable pub after : ℕ → Line → ℕ
+after p (let-line w x) = 1
+after p (show-line w) = 1
+
+-- ---- A sheet has 1 to 96 lines.
+abbrev pub printLines : List Line → List ℕ
+printLines [] = []
+printLines (l ∷ ls) = printLine l ⌢ printLines ls
+
+-- lines of which the first stands in the phase p, and the phase after them
+abbrev pub AreLines : ℕ → List Line → Type 0
+AreLines p [] = Unit {0}
+AreLines p (l ∷ ls) = IsLine l × (allowed p l ≡ true) × AreLines (after p l) ls
+
+unfoldable pub afterAll : ℕ → List Line → ℕ
+afterAll p [] = p
+afterAll p (l ∷ ls) = afterAll (after p l) ls
+
+abbrev pub printSheet : Sheet → List ℕ
+printSheet c = printHead (c .head) ⌢ printLines (c .lines)
+
+abbrev pub IsSheet : Sheet → Type 0
+IsSheet c = IsHead (c .head) × AreLines 0 (c .lines) × (length (c .lines) ≤ 95)
+
+-- the bytes s are the sheet c
+abbrev pub Written : List ℕ → Sheet → Type 0
+Written s c = (s ≡ printSheet c) × IsSheet c
+
+-- ---- Refusal 3: some line breaks the grammar; the first such line, or line 97.
+
+-- the bytes begin with a line 1, or with another line that may stand in the phase p
+abbrev pub HeadBegins : List ℕ → Type 0
+HeadBegins s = (h : Head) × (r : List ℕ) × (s ≡ printHead h ⌢ r) × IsHead h
+
+abbrev pub LineBegins : ℕ → List ℕ → Type 0
+LineBegins p s = (l : Line) × (r : List ℕ) × (s ≡ printLine l ⌢ r) × IsLine l × (allowed p l ≡ true)
+
+-- Line j is the first that breaks the grammar. At line 1: no line 1 begins the bytes. At a later line: the lines before it are a sheet c,
+-- something follows, and no line begins it. At line 97: something follows 96 lines.
+pub data FirstBad : List ℕ → ℕ → Type 0 where
+  at-head : {s : List ℕ} → ¬ (HeadBegins s) → FirstBad s 1
+  at-line : {s : List ℕ} (c : Sheet) (b : ℕ) (r : List ℕ) → s ≡ printSheet c ⌢ (b ∷ r) → IsSheet c → ¬ (LineBegins (afterAll 0 (c .lines)) (b ∷ r)) → FirstBad s (length (c .lines) + 2)
+  at-97 : {s : List ℕ} (c : Sheet) (b : ℕ) (r : List ℕ) → s ≡ printSheet c ⌢ (b ∷ r) → IsSheet c → length (c .lines) ≡ 95 → FirstBad s 97
+
+-- ---- Line numbers: the bytes of the first k lines, so that line k + 1 begins after them.
+unfoldable pub firstLines : ℕ → Sheet → List ℕ
+firstLines zero c = []
+firstLines (suc k) c = printHead (c .head) ⌢ printLines (take k (c .lines))

@@ -1,0 +1,159 @@
+-- Document 01's machine: it takes lines in order and arguments left to right, inner first, with no kinds worked out beforehand.
+use mathlib.Core.List.{List, [], _∷_, _++_}
+use mathlib.Core.Option.{Option, none, some}
+use mathlib.Core.Bool.{Bool, true, false}
+use Prim.Native.Nat.{ℕ, suc}
+use lib.Ieee.{Float}
+use Rattle.numbers.specs.Ops.{num}
+use Rattle.numbers.specs.Lengths.{metres}
+use Rattle.frames.specs.Ellipsoids.{wgs84 as surfaceWgs84, ellipsoid as surfaceOf}
+use Rattle.frames.specs.declared.ellipsoid.Ellipsoid.{Ellipsoid}
+use Rattle.frames.specs.declared.frame.LocalFrame.{LocalFrame}
+use Rattle.sheets.specs.declared.value.Value.{Value}
+use Rattle.sheets.specs.declared.value.Value.the-variants.{Number, Radians, Metres, Geocentric, Geodetic, Vector, Frame}
+use Rattle.sheets.specs.Text.{Word}
+use Rattle.sheets.specs.Trees.{Num, Expr, Exprs, word-expr, num-expr, form-expr, nil, _▸_, Line, let-line, show-line, Head, wgs84, custom, Sheet}
+use Rattle.sheets.specs.Table.{Row, on, table}
+use Rattle.sheets.specs.Lookup.{Hit, find}
+use Rattle.sheets.specs.Names.{Known, lookup, barred, readingWords}
+use Rattle.sheets.specs.Limits.{numValue, inLimit}
+use Rattle.sheets.specs.Output.{outputLine}
+use Rattle.sheets.specs.Refusals.{Stop, limit, centre}
+
+-- what a step comes to, with the frames that it made: it goes on with a result, refusal 7 or 8 stops it, or it sticks
+pub data Out (A : Type 0) : Type 0 where
+  goes : List LocalFrame → A → Out A
+  stops : List LocalFrame → Stop → Out A
+  sticks : List LocalFrame → Out A
+
+abbrev pub after : {A : Type 0} → List LocalFrame → Out A → Out A
+after fs (goes hs x) = goes (fs ++ hs) x
+after fs (stops hs r) = stops (fs ++ hs) r
+after fs (sticks hs) = sticks (fs ++ hs)
+
+abbrev pub then : {A B : Type 0} → Out A → (A → Out B) → Out B
+then (goes fs x) k = after fs (k x)
+then (stops fs r) k = stops fs r
+then (sticks fs) k = sticks fs
+
+-- ---- expressions
+
+abbrev pub test : List LocalFrame → Bool → Value → Out Value
+test fs true x = goes fs x
+test fs false x = stops fs limit
+
+-- a NUM's or a word's value is tested where it is met
+abbrev pub met : Value → Out Value
+met x = test [] (inLimit x) x
+
+abbrev pub meet : Option Value → Out Value
+meet none = sticks []
+meet (some x) = met x
+
+-- the frame that a row makes, even if the test then refuses it
+abbrev pub made : Value → List LocalFrame
+made (Number x) = []
+made (Radians x) = []
+made (Metres x) = []
+made (Geocentric x) = []
+made (Geodetic x) = []
+made (Vector x) = []
+made (Frame f) = f ∷ []
+
+abbrev pub result : Value → Out Value
+result x = test (made x) (inLimit x) x
+
+abbrev pub provided : Bool → (Unit {0} → Out Value) → Out Value
+provided true k = k tt
+provided false k = stops [] centre
+
+-- the row that fits: refusal 8, then the row by its definition, then refusal 7
+abbrev pub applyRow : Ellipsoid → Option Hit → Out Value
+applyRow e none = sticks []
+applyRow e (some h) =
+    let r = h .row in
+    provided (on (r .takes) (r .centred e) (h .args)) (λ u. result (on (r .takes) (r .apply e) (h .args)))
+
+unfoldable mutual
+  pub eval : Expr → Ellipsoid → Known Value → Out Value
+  eval (word-expr w) e ps = meet (lookup w ps)
+  eval (num-expr q) e ps = met (Number (numValue q))
+  eval (form-expr w xs) e ps = then (evals xs e ps) (λ vs. applyRow e (find table w vs))
+
+  pub evals : Exprs → Ellipsoid → Known Value → Out (List Value)
+  evals nil e ps = goes [] []
+  evals (x ▸ xs) e ps = then (eval x e ps) (λ y. then (evals xs e ps) (λ ys. goes [] (y ∷ ys)))
+
+-- ---- lines
+
+-- a name that a let gave, with its line
+pub record Given (A : Type 0) : Type 0 where
+  pub line : ℕ
+  pub name : Word
+  pub value : A
+
+-- The ellipsoid, the known words with values, and the text written. Nothing depends on the last two: the names given, the newest first, and the value of each line from line 2.
+pub record State : Type 0 where
+  pub ellipsoid : Ellipsoid
+  pub known : Known Value
+  pub text : List ℕ
+  pub given : List (Given Value)
+  pub values : List Value
+
+abbrev pub give : Bool → ℕ → State → Word → Value → Out State
+give true i s w x = sticks []
+give false i s w x = goes [] (record {
+  ellipsoid = s .ellipsoid;
+  known = (w, x) ∷ s .known;
+  text = s .text;
+  given = record { line = i; name = w; value = x } ∷ s .given;
+  values = s .values ++ (x ∷ []);
+})
+
+abbrev pub write : State → Word → Value → State
+write s w x = record { ellipsoid = s .ellipsoid; known = s .known; text = s .text ++ outputLine w x; given = s .given; values = s .values ++ (x ∷ []) }
+
+-- line i: a let's expression is read before its name is given
+unfoldable pub step : ℕ → State → Line → Out State
+step i s (let-line w x) = then (eval x (s .ellipsoid) (s .known)) (λ y. give (barred w (s .known)) i s w y)
+step i s (show-line w) = then (meet (lookup w (s .known))) (λ y. goes [] (write s w y))
+
+-- ---- a sheet
+
+-- how a run ends: the frames made, and the state after the last line, or before the line that ended it
+pub data Ran : Type 0 where
+  done : List LocalFrame → State → Ran
+  stopped : List LocalFrame → Stop → ℕ → State → Ran
+  stuck : List LocalFrame → ℕ → State → Ran
+
+abbrev pub afterwards : List LocalFrame → Ran → Ran
+afterwards fs (done hs s) = done (fs ++ hs) s
+afterwards fs (stopped hs r i s) = stopped (fs ++ hs) r i s
+afterwards fs (stuck hs i s) = stuck (fs ++ hs) i s
+
+abbrev pub onward : Out State → ℕ → State → (State → Ran) → Ran
+onward (goes fs t) i s k = afterwards fs (k t)
+onward (stops fs r) i s k = stopped fs r i s
+onward (sticks fs) i s k = stuck fs i s
+
+-- the lines from line i on
+unfoldable pub steps : List Line → ℕ → State → Ran
+steps [] i s = done [] s
+steps (x ∷ xs) i s = onward (step i s x) i s (λ t. steps xs (suc i) t)
+
+-- line 1
+unfoldable pub surface : Head → Ellipsoid
+surface wgs84 = surfaceWgs84
+surface (custom q r) = surfaceOf (metres (numValue q)) (numValue r)
+
+-- r0 to r15 hold the readings (one that is lacking counts as 0: a run has all sixteen)
+abbrev pub readings : List Word → List Float → Known Value
+readings [] rs = []
+readings (w ∷ ws) [] = (w, Number (num 0)) ∷ readings ws []
+readings (w ∷ ws) (r ∷ rs) = (w, Number r) ∷ readings ws rs
+
+abbrev pub start : Head → List Float → State
+start h rs = record { ellipsoid = surface h; known = readings readingWords rs; text = []; given = []; values = [] }
+
+unfoldable pub machine : Sheet → List Float → Ran
+machine c rs = steps (c .lines) 2 (start (c .head) rs)

@@ -1,0 +1,34 @@
+-- Known words: what they stand for, and which words a let may give.
+use mathlib.Core.List.{List, [], _∷_}
+use mathlib.Core.Option.{Option, none, some}
+use mathlib.Core.Bool.{Bool, true, false, _||_}
+use Rattle.sheets.specs.Text.{Word, ascii}
+use Rattle.sheets.specs.Table.{table}
+use Rattle.sheets.specs.Lookup.{sameWord, opens}
+
+-- known words, the newest first, each with what it stands for
+abbrev pub Known : Type 0 → Type 0
+Known A = List (Word × A)
+
+abbrev pub orElse : {A : Type 0} → Bool → A → Option A → Option A
+orElse true x o = some x
+orElse false x o = o
+
+-- what a word stands for
+abbrev pub lookup : {A : Type 0} → Word → Known A → Option A
+lookup w [] = none
+lookup w (p ∷ ps) = orElse (sameWord w (p .0)) (p .1) (lookup w ps)
+
+abbrev pub knows : {A : Type 0} → Word → Known A → Bool
+knows w [] = false
+knows w (p ∷ ps) = sameWord w (p .0) || knows w ps
+
+-- a word that cannot be given: an operator's, or one that is known
+abbrev pub barred : {A : Type 0} → Word → Known A → Bool
+barred w ps = opens table w || knows w ps
+
+-- the words known from the start
+abbrev pub readingWords : List Word
+readingWords =
+    ascii "r0" ∷ ascii "r1" ∷ ascii "r2" ∷ ascii "r3" ∷ ascii "r4" ∷ ascii "r5" ∷ ascii "r6" ∷ ascii "r7"
+    ∷ ascii "r8" ∷ ascii "r9" ∷ ascii "r10" ∷ ascii "r11" ∷ ascii "r12" ∷ ascii "r13" ∷ ascii "r14" ∷ ascii "r15" ∷ []
