@@ -2,11 +2,12 @@
 #[allow(dead_code)]
 mod random;
 mod root_model;
+mod timing;
 
 use random::{Random, power_of_two, step};
 use reference::Standins;
 use std::hint::black_box;
-use std::time::Instant;
+use timing::best;
 
 extern "C" {
     fn numbers_sqrt(x: f64) -> f64;
@@ -48,27 +49,9 @@ const INPUTS: usize = 1_000_000;
 const ROUNDS: usize = 7;
 const COUNTED: u64 = 10_000_000;
 
-// Nanoseconds a call and what the answers come to, over all inputs.
-fn pass(f: impl Fn(usize) -> f64) -> (f64, u64) {
-    let start = Instant::now();
-    let mut all = 0;
-    for i in 0..INPUTS {
-        all ^= f(i).to_bits();
-    }
-    (start.elapsed().as_secs_f64() * 1e9 / INPUTS as f64, black_box(all))
-}
-
-// The best of some rounds of each side, in turn.
 fn row(name: &str, inputs: &str, rust: impl Fn(usize) -> f64, rattle: impl Fn(usize) -> f64) {
-    let (mut best_rust, mut best_rattle) = (f64::INFINITY, f64::INFINITY);
-    for _ in 0..ROUNDS {
-        let (time, answers) = pass(&rust);
-        best_rust = best_rust.min(time);
-        let (time, same) = pass(&rattle);
-        best_rattle = best_rattle.min(time);
-        assert_eq!(answers, same, "{name} of {inputs}: the answers differ");
-    }
-    println!("{name:<6} {inputs:<44} {best_rust:>8.2} {best_rattle:>8.2} {:>7.2}", best_rattle / best_rust);
+    let (rust, rattle) = best(name, INPUTS, ROUNDS, |i| rust(i).to_bits(), |i| rattle(i).to_bits());
+    println!("{name:<6} {inputs:<44} {rust:>8.2} {rattle:>8.2} {:>7.2}", rattle / rust);
 }
 
 fn one(name: &str, inputs: &str, rust: One, rattle: One, x: impl FnMut(usize) -> f64) {

@@ -1,4 +1,5 @@
 // Inputs for an operation, by what it takes. Each call of `fill` is the next turn; the classes come round in turn, so that a few dozen turns meet them all.
+use crate::earth::Part;
 use crate::random::{CLASSES, Random, number, power_of_two};
 use std::f64::consts::PI;
 
@@ -20,11 +21,13 @@ pub enum Feed {
     Decimal,
     // vectors, often related, and at the end perhaps one number
     Vectors,
+    // what a frame's operation takes, part by part
+    Parts(&'static [Part]),
 }
 
 pub struct Feeder {
-    random: Random,
-    turn: u64,
+    pub random: Random,
+    pub turn: u64,
     class: u64,
 }
 
@@ -52,6 +55,7 @@ impl Feeder {
             }
             Feed::Decimal => inputs.copy_from_slice(&self.decimal()),
             Feed::Vectors => self.vectors(inputs),
+            Feed::Parts(parts) => self.parts(parts, inputs),
         }
         self.turn += 1;
     }
@@ -63,7 +67,7 @@ impl Feeder {
     }
 
     // A number of any class.
-    fn any(&mut self) -> f64 {
+    pub fn any(&mut self) -> f64 {
         let class = self.random.below(CLASSES);
         number(&mut self.random, class)
     }
@@ -206,19 +210,19 @@ impl Feeder {
     }
 }
 
-fn put(to: &mut [u64], from: &[f64]) {
+pub fn put(to: &mut [u64], from: &[f64]) {
     for (bits, x) in to.iter_mut().zip(from) {
         *bits = x.to_bits();
     }
 }
 
-fn axis(r: &mut Random) -> [f64; 3] {
+pub fn axis(r: &mut Random) -> [f64; 3] {
     let mut v = [0; 3].map(|_| r.signed(0.0));
     v[r.below(3) as usize] = r.signed(1.0);
     v
 }
 
-fn unit(v: [f64; 3]) -> [f64; 3] {
+pub fn unit(v: [f64; 3]) -> [f64; 3] {
     let n = (v[0] * v[0] + v[1] * v[1] + v[2] * v[2]).sqrt();
     v.map(|x| x / n)
 }

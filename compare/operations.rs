@@ -1,99 +1,8 @@
 // The operations by number, as the library's numbers_apply takes them: what each takes and gives, and the Rust's answer.
-use crate::feeds::Feed::{self, Decimal, Nothing, Number, Pair, Root, Turn, Unit, Vectors, Wrap, WrapFull};
+use crate::feeds::Feed::{Decimal, Nothing, Number, Pair, Root, Turn, Unit, Vectors, Wrap, WrapFull};
+use crate::words::{Operation, Outputs, op};
 use reference::numbers::{eq, eq_zero, gte, lte};
 use reference::{Angle, Length, Mat33, Standins, Vec3};
-
-pub const INPUTS: usize = 18;
-pub const OUTPUTS: usize = 21;
-const NAN: u64 = 0x7ff8_0000_0000_0000;
-
-pub struct Operation {
-    pub name: &'static str,
-    pub inputs: usize,
-    pub outputs: usize,
-    pub feed: Feed,
-    answer: fn(&Inputs, &mut Outputs),
-}
-
-impl Operation {
-    // The Rust's answer.
-    pub fn answer(&self, inputs: &[u64; INPUTS]) -> [u64; OUTPUTS] {
-        let mut o = Outputs { bits: [0; OUTPUTS], count: 0 };
-        (self.answer)(&Inputs(inputs), &mut o);
-        assert_eq!(o.count, self.outputs, "{}", self.name);
-        o.bits
-    }
-}
-
-// Any NaN as one.
-pub fn one_nan(bits: u64) -> u64 {
-    if f64::from_bits(bits).is_nan() { NAN } else { bits }
-}
-
-struct Inputs<'a>(&'a [u64; INPUTS]);
-
-impl Inputs<'_> {
-    fn n(&self, at: usize) -> f64 {
-        f64::from_bits(self.0[at])
-    }
-
-    fn a(&self, at: usize) -> Angle {
-        Angle { radians: self.n(at) }
-    }
-
-    fn l(&self, at: usize) -> Length {
-        Length { metres: self.n(at) }
-    }
-
-    // Vectors and matrices with the parts as they are, minus zero too.
-    fn v(&self, at: usize) -> Vec3 {
-        Vec3 { x: self.n(at), y: self.n(at + 1), z: self.n(at + 2) }
-    }
-
-    fn m(&self, at: usize) -> Mat33 {
-        Mat33 { r0: self.v(at), r1: self.v(at + 3), r2: self.v(at + 6) }
-    }
-}
-
-struct Outputs {
-    bits: [u64; OUTPUTS],
-    count: usize,
-}
-
-impl Outputs {
-    fn put(&mut self, bits: u64) {
-        self.bits[self.count] = bits;
-        self.count += 1;
-    }
-
-    fn n(&mut self, x: f64) {
-        self.put(one_nan(x.to_bits()));
-    }
-
-    fn b(&mut self, x: bool) {
-        self.put(x as u64);
-    }
-
-    fn a(&mut self, x: Angle) {
-        self.n(x.radians);
-    }
-
-    fn l(&mut self, x: Length) {
-        self.n(x.metres);
-    }
-
-    fn v(&mut self, v: Vec3) {
-        self.n(v.x);
-        self.n(v.y);
-        self.n(v.z);
-    }
-
-    fn m(&mut self, m: Mat33) {
-        self.v(m.r0);
-        self.v(m.r1);
-        self.v(m.r2);
-    }
-}
 
 // The double nearest to digits / tens: where tens is a power of ten that of the numeral, as std reads it.
 fn decimal(negative: bool, digits: u64, tens: u64) -> f64 {
@@ -108,10 +17,6 @@ fn decimal(negative: bool, digits: u64, tens: u64) -> f64 {
         digits as f64 / tens as f64
     };
     if negative { -x } else { x }
-}
-
-const fn op(name: &'static str, inputs: usize, outputs: usize, feed: Feed, answer: fn(&Inputs, &mut Outputs)) -> Operation {
-    Operation { name, inputs, outputs, feed, answer }
 }
 
 pub static OPERATIONS: [Operation; 59] = [

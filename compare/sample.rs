@@ -1,22 +1,23 @@
-// A sample of inputs and the Rust's answers as text. A line is the operation's number in two digits, then each input or output as a space and 16 hexadecimal digits.
+// A sample of inputs and the Rust's answers as text. A line is the operation's number in three digits, then each input or output as a space and 16 hexadecimal digits.
+use crate::driver::{Table, hex};
 use crate::feeds::Feeder;
-use crate::hex;
-use crate::operations::{INPUTS, OPERATIONS};
+use crate::words::INPUTS;
 use std::fs::File;
 use std::io::{BufWriter, Result, Write};
 
-pub fn write(count: u64, seed: u64, inputs: &str, answers: &str) -> Result<()> {
+pub fn write(table: &Table, count: u64, seed: u64, inputs: &str, answers: &str) -> Result<()> {
     let mut asked = BufWriter::new(File::create(inputs)?);
     let mut answered = BufWriter::new(File::create(answers)?);
-    for (number, operation) in OPERATIONS.iter().enumerate() {
+    for (number, operation) in table.operations.iter().enumerate() {
+        let number = table.first + number;
         let mut feeder = Feeder::of(seed, number);
         let turns = if operation.inputs == 0 { 1 } else { count };
         for _ in 0..turns {
             let mut bits = [0; INPUTS];
             feeder.fill(operation.feed, &mut bits[..operation.inputs]);
             let answer = operation.answer(&bits);
-            writeln!(asked, "{number:02}{}", hex(&bits[..operation.inputs]))?;
-            writeln!(answered, "{number:02}{}", hex(&answer[..operation.outputs]))?;
+            writeln!(asked, "{number:03}{}", hex(&bits[..operation.inputs]))?;
+            writeln!(answered, "{number:03}{}", hex(&answer[..operation.outputs]))?;
         }
     }
     asked.flush()?;

@@ -1,12 +1,12 @@
 -- Laws of one rounded operation, at any format: zero is neutral in a sum, a finite value less itself is zero, and so is zero times one. Assumes nothing.
 use mathlib.Core.Path.{_≡_, refl, sym, ap, _∙_, subst}
-use Prim.Native.Nat.{ℕ, zero, suc, _+_, _-_, _*_, _<_}
-use native.Mathlib.Nat.{sub-zero, sub-self, add-zero, mul-one, one-mul, zero-mul, zero-add, mul-pos, lt-irrefl, zero-lt-suc}
+use Prim.Native.Nat.{ℕ, zero, suc, _+_, _-_, _*_, _%_, _<_}
+use native.Mathlib.Nat.{sub-zero, sub-self, add-zero, mul-one, one-mul, zero-mul, zero-add, mul-pos, mod-eq-of-lt, lt-irrefl, zero-lt-suc}
 use native.Mathlib.Omega.{arith}
-use mathlib.Core.Bool.{Bool, true, false, not, _&&_, _||_, Bool·beq, cond}
+use mathlib.Core.Bool.{Bool, true, false, not, _&&_, _||_, Bool·beq, cond, true≢false}
 use lib.IntN.{ℤ, pos}
-use lib.Dec.{T, ltb, eqb, ltb→lt, lt→ltb, eqb-refl}
-use lib.Ieee.{Float, nan, inf, fin, Format, up, down, unlike, round, neg, sum, add, sub, mul, eq, level, fits}
+use lib.Dec.{T, ltb, eqb, ltb→lt, lt→ltb, eqb→eq, eqb-refl}
+use lib.Ieee.{rem, lt, below, Float, nan, inf, fin, Format, up, down, unlike, round, neg, sum, add, sub, mul, eq, level, fits}
 use lib.Ieee.Fits.{up-pos, down-pos, add-fits}
 use lib.Ieee.Scale.{finite}
 use Rattle.numbers.proofs.RoundLaw.{zero-exp, round-zero, round-own}
@@ -233,6 +233,49 @@ zero-times f (fin s m e) t = (
       ∙ ap (λ (x : ℕ). round f (unlike false s) x (1 * down e)) (zero-mul (m * up e))
       ∙ round-zero f (unlike false s) (1 * down e) (mul-pos (zero-lt-suc 0) (down-pos e)),
 )
+
+-- ---- the remainder of a value that is smaller than the divisor is itself
+
+rem-inf : (f : Format) (s : Bool) (m : ℕ) (e : ℤ) (t : Bool) → rem f (fin s m e) (inf t) ≡ fin s m e
+unfolding rem
+rem-inf f s m e t = refl
+
+rem-fin : (f : Format) (s : Bool) (m : ℕ) (e : ℤ) (t : Bool) (n : ℕ) (d : ℤ) → T (fits f (fin s m e)) → m * up e * down d < n * up d * down e → rem f (fin s m e) (fin t n d) ≡ fin s m e
+unfolding rem
+rem-fin f s m e t n d h l = go (eqb n 0) (eqb→eq n 0)
+  where
+    some : n ≡ 0 → ⊥
+    some z = let q : m * up e * down d < 0 * up d * down e = subst (λ (x : ℕ). m * up e * down d < x * up d * down e) z l in omega arith
+
+    whole : m * up e * down d * down e ≡ m * up e * (down e * down d)
+    whole = omega arith
+
+    go : (b : Bool) → (T b → n ≡ 0) → cond b nan (round f s (m * up e * down d % (n * up d * down e)) (down e * down d)) ≡ fin s m e
+    go true z = absurd (some (z tt))
+    go false z =
+        ap (λ (x : ℕ). round f s x (down e * down d)) (mod-eq-of-lt l)
+        ∙ round-own f s m e (m * up e * down d) (down e * down d) h (mul-pos (down-pos e) (down-pos d)) whole
+
+-- from the two comparisons
+smaller : (s : Bool) (a : ℕ) (t : Bool) (b : ℕ) → below (not t) b s a ≡ true → below s a t b ≡ true → a < b
+smaller false a false b h k = ltb→lt a b (subst T (sym k) tt)
+smaller true a false b h k = ltb→lt a b (subst T (sym h) tt)
+smaller false a true b h k = absurd (true≢false (sym k))
+smaller true a true b h k = absurd (true≢false (sym h))
+
+pub rem-small : (f : Format) (x y : Float) → T (fits f x) → lt (neg y) x ≡ true → lt x y ≡ true → rem f x y ≡ x
+unfolding lt neg
+rem-small f nan y t h k = absurd (true≢false (sym k))
+rem-small f (inf false) nan t h k = absurd (true≢false (sym k))
+rem-small f (inf false) (inf u) t h k = absurd (true≢false (sym k))
+rem-small f (inf false) (fin u n d) t h k = absurd (true≢false (sym k))
+rem-small f (inf true) nan t h k = absurd (true≢false (sym h))
+rem-small f (inf true) (inf true) t h k = absurd (true≢false (sym h))
+rem-small f (inf true) (inf false) t h k = absurd (true≢false (sym h))
+rem-small f (inf true) (fin u n d) t h k = absurd (true≢false (sym h))
+rem-small f (fin s m e) nan t h k = absurd (true≢false (sym k))
+rem-small f (fin s m e) (inf u) t h k = rem-inf f s m e u
+rem-small f (fin s m e) (fin u n d) t h k = rem-fin f s m e u n d t (smaller s (m * up e * down d) u (n * up d * down e) h k)
 
 -- ---- a finite value equals itself as a number
 

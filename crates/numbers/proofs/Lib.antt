@@ -15,5 +15,6 @@ pub mod WholeLaw
 pub mod CeilLaw
 pub mod Range
 pub mod FitLaws
+pub mod AngleLaws
 pub mod VecLaws
 pub mod Examples

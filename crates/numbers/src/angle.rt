@@ -3,7 +3,9 @@ use crate::float::abs;
 use crate::float::to_degrees;
 use crate::float::to_radians;
 ghost use mathlib.Core.Path.{_≡_};
-ghost use Rattle.numbers.specs.Angles.{angle, fromDegrees, asDegrees, angleAbs, angleNeg, angleEq, wrapped, normalisedTo};
+ghost use lib.Ieee as Ieee;
+ghost use Rattle.numbers.specs.Ops.{_⊕_, num, pick};
+ghost use Rattle.numbers.specs.Angles.{angle, fromDegrees, asDegrees, angleAbs, angleNeg, angleEq, normalisedTo};
 ghost use Rattle.numbers.specs.Angles as Angles;
 
 const PI: f64 = 3.141592653589793;
@@ -64,27 +66,7 @@ impl Angle {
     pub fn normalised_to(self, max: Angle) -> Self
         ensures { λ r. ⌜ r ≡ normalisedTo self max ⌝ }
     {
-        if self.0 >= 0.0 {
-            if self.0 < max.0 {
-                self
-            } else {
-                self.wrapped(max)
-            }
-        } else {
-            self.wrapped(max)
-        }
-    }
-
-    // The remainder by max, moved up by max where it is below zero.
-    fn wrapped(self, max: Angle) -> Self
-        ensures { λ r. ⌜ r ≡ wrapped (self .0) (max .0) ⌝ }
-    {
-        let res = self.0 % max.0;
-        if res < 0.0 {
-            Angle::from_radians(res + max.0)
-        } else {
-            Angle::from_radians(res)
-        }
+        Angle(normalised_radians(self.0, max.0))
     }
 
     // `-` and `==` of the Rust.
@@ -98,5 +80,36 @@ impl Angle {
         ensures { λ r. ⌜ r ≡ angleEq self rhs ⌝ }
     {
         self.0 == rhs.0
+    }
+}
+
+// What `normalised_to` answers. Within max on either side of zero there is no division and no jump on the sign.
+fn normalised_radians(radians: f64, max: f64) -> f64
+    ensures { λ r. ⌜ angle r ≡ normalisedTo (angle radians) (angle max) ⌝ }
+{
+    if radians > -max {
+        if radians < max {
+            return lifted(radians, max);
+        }
+    }
+    if radians >= 0.0 {
+        if radians < max {
+            radians
+        } else {
+            lifted(radians % max, max)
+        }
+    } else {
+        lifted(radians % max, max)
+    }
+}
+
+// Moved up by max where it is below zero.
+fn lifted(radians: f64, max: f64) -> f64
+    ensures { λ r. ⌜ angle r ≡ pick (Ieee.lt radians (num 0)) (angle (radians ⊕ max)) (angle radians) ⌝ }
+{
+    if radians < 0.0 {
+        radians + max
+    } else {
+        radians
     }
 }

@@ -36,8 +36,8 @@ pub fn length_of(op: u64, x: f64, y: f64) -> f64 {
 }
 
 // Operation 49: the constants.
-pub fn angle_constants() -> [u64; 21] {
-    let mut out = [0u64; 21];
+pub fn angle_constants() -> [u64; 24] {
+    let mut out = [0u64; 24];
     out[0] = bits(Angle::ZERO.0);
     out[1] = bits(Angle::QUARTER_CIRCLE.0);
     out[2] = bits(Angle::NEG_QUARTER_CIRCLE.0);

@@ -21,7 +21,7 @@ ghost use Rattle.numbers.specs.Arctangent as Arctangent;
 
 // `table::apply`: the words of an operation's answer, then zeros.
 #[no_mangle]
-pub extern "C" fn numbers_apply(op: u64, inputs: &[u64; 18], outputs: &mut [u64; 21]) {
+pub extern "C" fn numbers_apply(op: u64, inputs: &[u64; 32], outputs: &mut [u64; 24]) {
     *outputs = table::apply(op, *inputs);
 }
 

@@ -5,8 +5,8 @@ use numbers::mat33::Mat33;
 ghost use Prim.Native.Nat.{_≤_};
 
 // The matrix of nine words from a place on, by rows, as they stand.
-pub fn matrix(a: [u64; 18], at: usize) -> Mat33
-    requires { ⌜ at ≤ 9 ⌝ }
+pub fn matrix(a: [u64; 32], at: usize) -> Mat33
+    requires { ⌜ at ≤ 23 ⌝ }
 {
     Mat33 {
         r0: vector(a, at),
@@ -16,11 +16,11 @@ pub fn matrix(a: [u64; 18], at: usize) -> Mat33
 }
 
 // An answer of a matrix, by rows.
-pub fn nine(m: Mat33) -> [u64; 21] {
+pub fn nine(m: Mat33) -> [u64; 24] {
     let r0 = m.r0;
     let r1 = m.r1;
     let r2 = m.r2;
-    let out = with_vector([0u64; 21], 0, r0);
+    let out = with_vector([0u64; 24], 0, r0);
     let out = with_vector(out, 3, r1);
     with_vector(out, 6, r2)
 }

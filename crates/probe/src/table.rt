@@ -52,7 +52,7 @@ pub fn outputs_of(op: u64) -> usize
 }
 
 // The answer of an operation, its words first and zeros after them. All zeros where there is no such operation.
-pub fn apply(op: u64, a: [u64; 18]) -> [u64; 21] {
+pub fn apply(op: u64, a: [u64; 32]) -> [u64; 24] {
     match op {
         0..=11 => one(bits(float_of(op, double(a[0]), double(a[1])))),
         12 => one(bits(decimal_of(a[0], a[1], a[2]))),
@@ -69,6 +69,6 @@ pub fn apply(op: u64, a: [u64; 18]) -> [u64; 21] {
         45 | 46 | 51 | 53 | 54 => nine(matrix_of(op, matrix(a, 0), matrix(a, 9))),
         49 => angle_constants(),
         50 => vector_constants(),
-        _ => [0u64; 21],
+        _ => [0u64; 24],
     }
 }

@@ -5,8 +5,8 @@ use numbers::vec3::Vec3;
 ghost use Prim.Native.Nat.{_≤_};
 
 // The vector of three words from a place on, as they stand.
-pub fn vector(a: [u64; 18], at: usize) -> Vec3
-    requires { ⌜ at ≤ 15 ⌝ }
+pub fn vector(a: [u64; 32], at: usize) -> Vec3
+    requires { ⌜ at ≤ 29 ⌝ }
 {
     Vec3 {
         x: double(a[at]),
@@ -16,8 +16,8 @@ pub fn vector(a: [u64; 18], at: usize) -> Vec3
 }
 
 // The words with a vector's three put in from a place on.
-pub fn with_vector(words: [u64; 21], at: usize, v: Vec3) -> [u64; 21]
-    requires { ⌜ at ≤ 18 ⌝ }
+pub fn with_vector(words: [u64; 24], at: usize, v: Vec3) -> [u64; 24]
+    requires { ⌜ at ≤ 21 ⌝ }
 {
     let mut out = words;
     out[at] = bits(v.x);
@@ -27,8 +27,8 @@ pub fn with_vector(words: [u64; 21], at: usize, v: Vec3) -> [u64; 21]
 }
 
 // An answer of a vector.
-pub fn three(v: Vec3) -> [u64; 21] {
-    with_vector([0u64; 21], 0, v)
+pub fn three(v: Vec3) -> [u64; 24] {
+    with_vector([0u64; 24], 0, v)
 }
 
 // Operations 28 to 43 and 52, those that answer a vector. A factor is the second vector's x.
@@ -71,8 +71,8 @@ fn components(v: Vec3) -> Vec3 {
 }
 
 // Operation 50: the constants.
-pub fn vector_constants() -> [u64; 21] {
-    let out = with_vector([0u64; 21], 0, Vec3::UNIT_X);
+pub fn vector_constants() -> [u64; 24] {
+    let out = with_vector([0u64; 24], 0, Vec3::UNIT_X);
     let out = with_vector(out, 3, Vec3::UNIT_Y);
     let out = with_vector(out, 6, Vec3::UNIT_Z);
     let out = with_vector(out, 9, Vec3::NEG_UNIT_X);

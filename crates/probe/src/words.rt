@@ -28,8 +28,8 @@ pub fn truth(t: bool) -> u64 {
 }
 
 // An answer of one word.
-pub fn one(x: u64) -> [u64; 21] {
-    let mut out = [0u64; 21];
+pub fn one(x: u64) -> [u64; 24] {
+    let mut out = [0u64; 24];
     out[0] = x;
     out
 }

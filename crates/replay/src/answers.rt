@@ -1,4 +1,7 @@
 // A line of an operation and its inputs, and the line of its answer.
+use crate::tables::apply;
+use crate::tables::inputs_of;
+use crate::tables::outputs_of;
 ghost use Prim.Native.Nat.{_+_, _*_, _≤_};
 ghost use lib.ListN.{length};
 ghost use Rattle.io.specs.Counts.{Counts};
@@ -6,7 +9,7 @@ ghost use Rattle.io.specs.Counts.{Counts};
 // The inputs of a line. They are all there where ok.
 struct Given {
     pub ok: bool,
-    pub words: [u64; 18],
+    pub words: [u64; 32],
 }
 
 // What sixteen places of a line hold.
@@ -36,20 +39,24 @@ fn hex_digit(b: u8) -> u64
     }
 }
 
-// The operation of the first two digits, or 100 where they are none.
+// The operation of the first three digits, or 1000 where they are none.
 fn operation(s: &[u8]) -> u64 {
-    if s.len() < 2 {
-        return 100;
+    if s.len() < 3 {
+        return 1000;
     }
-    let tens = decimal_digit(s[0]);
-    let ones = decimal_digit(s[1]);
+    let hundreds = decimal_digit(s[0]);
+    let tens = decimal_digit(s[1]);
+    let ones = decimal_digit(s[2]);
+    if hundreds == 10 {
+        return 1000;
+    }
     if tens == 10 {
-        return 100;
+        return 1000;
     }
     if ones == 10 {
-        return 100;
+        return 1000;
     }
-    tens * 10 + ones
+    hundreds * 100 + tens * 10 + ones
 }
 
 // The word of the sixteen digits at a place.
@@ -73,12 +80,12 @@ fn word(s: &[u8], at: usize) -> Read
 
 // The words of a line that is as long as its operation and `count` inputs.
 fn inputs(s: &[u8], count: usize) -> Given
-    requires { ⌜ (2 + 17 * count ≤ length (now s)) × (count ≤ 18) ⌝ }
+    requires { ⌜ (3 + 17 * count ≤ length (now s)) × (count ≤ 32) ⌝ }
 {
-    let mut words = [0u64; 18];
+    let mut words = [0u64; 32];
     let mut i: usize = 0;
     while i < count {
-        let at = 2 + 17 * i;
+        let at = 3 + 17 * i;
         if s[at] != b' ' {
             return Given { ok: false, words };
         }
@@ -114,15 +121,16 @@ fn put_word(out: &mut [u8], at: usize, x: u64)
     }
 }
 
-// The line of an answer: the operation's two digits, as the line s has them, and the words.
-fn answer(s: &[u8], words: [u64; 21], count: usize, out: &mut [u8]) -> usize
-    requires { ⌜ (2 ≤ length (now s)) × (count ≤ 21) × (360 ≤ length (now out)) ⌝ }
+// The line of an answer: the operation's three digits, as the line s has them, and the words.
+fn answer(s: &[u8], words: [u64; 24], count: usize, out: &mut [u8]) -> usize
+    requires { ⌜ (3 ≤ length (now s)) × (count ≤ 24) × (412 ≤ length (now out)) ⌝ }
     ensures { λ r. ⌜ Counts r (now (out .exit)) ⌝ }
 {
     out[0] = s[0];
     out[1] = s[1];
+    out[2] = s[2];
     let mut i: usize = 0;
-    let mut at: usize = 2;
+    let mut at: usize = 3;
     while i < count {
         out[at] = b' ';
         put_word(out, at + 1, words[i]);
@@ -135,7 +143,7 @@ fn answer(s: &[u8], words: [u64; 21], count: usize, out: &mut [u8]) -> usize
 
 // The line for what is no operation with its inputs.
 fn refusal(out: &mut [u8]) -> usize
-    requires { ⌜ 360 ≤ length (now out) ⌝ }
+    requires { ⌜ 412 ≤ length (now out) ⌝ }
     ensures { λ r. ⌜ Counts r (now (out .exit)) ⌝ }
 {
     out[0] = b'?';
@@ -145,16 +153,16 @@ fn refusal(out: &mut [u8]) -> usize
 
 // The answer to a line, which is given without its LF, at the start of out: how many bytes it has, its LF with them.
 pub fn line(s: &[u8], out: &mut [u8]) -> usize
-    requires { ⌜ 360 ≤ length (now out) ⌝ }
+    requires { ⌜ 412 ≤ length (now out) ⌝ }
     ensures { λ r. ⌜ Counts r (now (out .exit)) ⌝ }
 {
     let op = operation(s);
-    let outputs = probe::outputs_of(op);
+    let outputs = outputs_of(op);
     if outputs == 0 {
         return refusal(out);
     }
-    let count = probe::inputs_of(op);
-    if s.len() != 2 + 17 * count {
+    let count = inputs_of(op);
+    if s.len() != 3 + 17 * count {
         return refusal(out);
     }
     let given = inputs(s, count);
@@ -162,5 +170,5 @@ pub fn line(s: &[u8], out: &mut [u8]) -> usize
         return refusal(out);
     }
     let words = given.words;
-    answer(s, probe::apply(op, words), outputs, out)
+    answer(s, apply(op, words), outputs, out)
 }

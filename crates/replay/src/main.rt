@@ -1,6 +1,7 @@
 // Answers recorded operations: a line of standard input is an operation and its inputs, a line of standard output the operation and its outputs.
-// Two decimal digits, then a space and sixteen hexadecimal digits for each word. A line of another form is answered by `?`.
+// Three decimal digits, then a space and sixteen hexadecimal digits for each word. A line of another form is answered by `?`.
 mod answers;
+mod tables;
 
 use libc::STDIN_FILENO;
 use libc::STDOUT_FILENO;
@@ -9,7 +10,7 @@ ghost use lib.ListN.{length};
 
 // Writes the answer to a line.
 fn respond(s: &[u8]) {
-    let mut out = [0u8; 360];
+    let mut out = [0u8; 412];
     let n = answers::line(s, &mut out);
     io::write_all(STDOUT_FILENO, &out[..n]);
 }
@@ -75,7 +76,7 @@ fn all(held: &mut [u8]) -> usize {
 }
 
 fn main() {
-    let mut held = [0u8; 309];
+    let mut held = [0u8; 548];
     let n = all(&mut held);
     if n > 0 {
         io::write_all(STDOUT_FILENO, b"?\n");

@@ -17,4 +17,7 @@ pub mod Check
 pub mod Admitted
 pub mod Answers
 pub mod Claim
+pub mod Applied
+pub mod KindCodes
+pub mod Views
 pub mod Computed

@@ -1,2 +1,14 @@
-// Bore sheets: their values and the table of names. The reader, the check and the run come above these.
+// Bore sheets: their values and the table of names, the reader of lines, words, numbers and expressions, the rows of the kind table and the limits. The check and the run come above these.
+pub mod args;
+pub mod bytes;
+pub mod dispatch;
+pub mod expr;
+pub mod form;
+pub mod frame_rows;
+pub mod head;
+pub mod kinds;
+pub mod limits;
+pub mod lines;
+pub mod num;
+pub mod rows;
 pub mod value;

@@ -8,7 +8,7 @@ use Rattle.replay.proofs.answers.answer.Statement.{statement}
 use Rattle.replay.proofs.answers.answer.Tie as tie
 
 abbrev Inv-loop : tie.InvT-loop
-Inv-loop s count out₀ words i₀ at₀ out i at = (i ≤ count) × (at ≡ 2 + 17 * i) × (360 ≤ length out) × (length out ≡ length out₀)
+Inv-loop s count out₀ words i₀ at₀ out i at = (i ≤ count) × (at ≡ 3 + 17 * i) × (412 ≤ length out) × (length out ≡ length out₀)
 
 abbrev μ-loop : tie.MeasureT-loop
 μ-loop s count out₀ words i₀ at₀ out i at = count - i
@@ -25,11 +25,17 @@ shared-slice-read-out-2 c = omega arith
 slice-write-out-2 : tie.Need-slice-write-out-2 Inv-loop μ-loop
 slice-write-out-2 c = simp length-set (omega arith)
 
+shared-slice-read-out-3 : tie.Need-shared-slice-read-out-3 Inv-loop μ-loop
+shared-slice-read-out-3 c = omega arith
+
+slice-write-out-3 : tie.Need-slice-write-out-3 Inv-loop μ-loop
+slice-write-out-3 c = simp length-set (omega arith)
+
 loop-holds : tie.Need-loop-holds Inv-loop μ-loop
 loop-holds c = (omega arith, omega arith, simp length-set (omega arith), refl)
 
-slice-write-out-3 : tie.Need-slice-write-out-3 Inv-loop μ-loop
-slice-write-out-3 c = omega arith
+slice-write-out-4 : tie.Need-slice-write-out-4 Inv-loop μ-loop
+slice-write-out-4 c = omega arith
 
 add-put-word : tie.Need-add-put-word Inv-loop μ-loop
 add-put-word c = omega arith
@@ -58,8 +64,8 @@ loop-again c =
     let k : length (c .before .before .put-word .last .0) ≡ length (l .loop .out) = c .before .before .put-word .kept .0 ∙ simp length-set in
     (omega arith, omega arith, omega arith, k ∙ l .loop .inv .3)
 
-slice-write-out-4 : tie.Need-slice-write-out-4 Inv-loop μ-loop
-slice-write-out-4 c = omega arith
+slice-write-out-5 : tie.Need-slice-write-out-5 Inv-loop μ-loop
+slice-write-out-5 c = omega arith
 
 add-result : tie.Need-add-result Inv-loop μ-loop
 add-result c = omega arith
@@ -84,8 +90,10 @@ answer-spec =
     slice-write-out
     shared-slice-read-out-2
     slice-write-out-2
-    loop-holds
+    shared-slice-read-out-3
     slice-write-out-3
+    loop-holds
+    slice-write-out-4
     add-put-word
     mul-put-word
     array-read-put-word
@@ -94,7 +102,7 @@ answer-spec =
     add-i
     loop-less
     loop-again
-    slice-write-out-4
+    slice-write-out-5
     add-result
     same-length
     returns)

@@ -8,7 +8,7 @@ use Rattle.replay.proofs.answers.inputs.Statement.{statement}
 use Rattle.replay.proofs.answers.inputs.Tie as tie
 
 abbrev Inv-loop : tie.InvT-loop
-Inv-loop s count words₀ i₀ words i = (i ≤ count) × (length words ≡ 18)
+Inv-loop s count words₀ i₀ words i = (i ≤ count) × (length words ≡ 32)
 
 abbrev μ-loop : tie.MeasureT-loop
 μ-loop s count words₀ i₀ words i = count - i

@@ -1,0 +1,12 @@
+// What the examples give.
+use frames::positions::GeodeticPosition;
+use frames::positions::NVector;
+use numbers::angle::Angle;
+use numbers::length::Length;
+
+// By degrees and metres.
+pub fn geodetic(latitude: f64, longitude: f64, height: f64) -> GeodeticPosition {
+    let lat = Angle::from_degrees(latitude);
+    let lon = Angle::from_degrees(longitude);
+    GeodeticPosition::new(NVector::from_lat_long(lat, lon), Length(height))
+}

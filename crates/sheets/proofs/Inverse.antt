@@ -1,0 +1,65 @@
+-- What was read where a reading succeeded, under the tests that the code makes: for the check and the run, which walk an expression again.
+-- (A word is `name-read`, the closing bracket `close-read`; where the code meets nothing of the grammar, `not-read` rules the way out.) Assumes nothing.
+use Prim.Native.Nat.{ℕ, _+_, _-_}
+use native.Mathlib.Omega.{arith}
+use mathlib.Core.Path.{_≡_, refl, sym, ap, _∙_}
+use mathlib.Core.List.{List}
+use lib.ListN.{getD}
+use lib.Ieee.{Float}
+use Rattle.sheets.specs.Text.{Word}
+use Rattle.sheets.specs.Trees.{Num, Expr, Exprs, num-expr, form-expr, _▸_}
+use Rattle.sheets.specs.Codes.{codeOf}
+use Rattle.sheets.specs.Reader.{Got, none, got, _then_, readWord, readNum, readArgs, orNum, readLeaf, readExpr}
+use Rattle.sheets.specs.Limits.{numValue}
+use Rattle.sheets.specs.Views.{place, coded, doubled}
+use Rattle.sheets.specs.declared.bytes.WordRead.{WordRead}
+use Rattle.sheets.specs.declared.num.DoubleRead.{DoubleRead}
+use Rattle.sheets.specs.declared.expr.Read.{Read}
+use Rattle.sheets.proofs.ReaderLaws.{expr-leaf}
+use Rattle.sheets.proofs.Viewed.{coded-none, coded-got, doubled-none, doubled-got}
+use Rattle.sheets.proofs.ExprSteps.{args-step, expr-step}
+
+-- nothing is read where the reader answers Bad
+pub not-read {ℓ} : {A : Type 0} {C : Type ℓ} (o : Got A) (x : A) (n : ℕ) → Read.Bad ≡ place o → o ≡ got x n → C
+unfolding place
+not-read o x n h g = let k : Read.Bad ≡ Read.At n = h ∙ ap place g in let z : _≡_ {A = ℕ} 0 1 = cc in absurd (omega arith)
+
+pub then-read : {A B : Type 0} (o : Got A) (k : A → ℕ → Got B) (y : B) (n : ℕ) → (o then k) ≡ got y n → (x : A) × (m : ℕ) × (o ≡ got x m) × (k x m ≡ got y n)
+unfolding _then_
+then-read none k y n e = let z : _≡_ {A = ℕ} 0 1 = cc in absurd (omega arith)
+then-read (got x m) k y n e = (x, m, refl, e)
+
+-- an argument and the rest
+pub arg-read : (x : ℕ → Got Expr) (s : List ℕ) (at b : ℕ) → b ≡ getD s at 0 → (left : ℕ) → (b ≡ 41 → ⊥) → (left ≡ 0 → ⊥) → b ≡ 32 → (es : Exprs) (n : ℕ) → readArgs x left s at ≡ got es n
+    → (e : Expr) × (m : ℕ) × (fs : Exprs) × (x (at + 1) ≡ got e m) × (readArgs x (left - 1) s m ≡ got fs n) × (es ≡ e ▸ fs)
+arg-read x s at b eb left c l h es n r =
+    let (e, m, ex, r') = then-read (x (at + 1)) (λ y n. readArgs x (left - 1) s n then (λ ys m. got (y ▸ ys) m)) es n (sym (args-step x s at b eb left c l h) ∙ r) in
+    let (fs, k, ef, r'') = then-read (readArgs x (left - 1) s m) (λ ys m. got (e ▸ ys) m) es n r' in
+    let i : k ≡ n = cc in
+    (e, m, fs, ex, ef ∙ ap (got fs) i, cc)
+
+-- a bracket; r is what the code read of its word
+pub form-read : (s : List ℕ) (at b : ℕ) → b ≡ getD s at 0 → (depth : ℕ) → b ≡ 40 → (depth ≡ 0 → ⊥) → (r : WordRead) → r ≡ coded (readWord s (at + 1)) → (k m : ℕ) → r ≡ WordRead.Is k m
+    → (e : Expr) (n : ℕ) → readExpr depth s at ≡ got e n → (w : Word) × (es : Exprs) × (k ≡ codeOf w) × (readArgs (readExpr (depth - 1) s) 5 s m ≡ got es n) × (e ≡ form-expr w es)
+form-read s at b eb depth h d r er k m hr e n g =
+    let (w, ew, ek) = coded-got (readWord s (at + 1)) r er k m hr in
+    let (v, i, ev, g') = then-read (readWord s (at + 1)) (λ w n. readArgs (readExpr (depth - 1) s) 5 s n then (λ xs m. got (form-expr w xs) m)) e n (sym (expr-step s at b eb depth h d) ∙ g) in
+    let (es, j, ea, g'') = then-read (readArgs (readExpr (depth - 1) s) 5 s i) (λ xs m. got (form-expr v xs) m) e n g' in
+    let im : i ≡ m = cc in
+    let iv : v ≡ w = cc in
+    let ij : j ≡ n = cc in
+    (w, es, ek, ap (readArgs (readExpr (depth - 1) s) 5 s) (sym im) ∙ ea ∙ ap (got es) ij, cc)
+
+-- a leaf that is no word; r is what the code read of a word, v what it read of a number
+module _ (s : List ℕ) (at b : ℕ) (eb : b ≡ getD s at 0) (depth : ℕ) (e : b ≡ 40 → ⊥) (r : WordRead) (er : r ≡ coded (readWord s at)) (h : r ≡ WordRead.Not) (v : DoubleRead) (ev : v ≡ doubled (readNum s at)) where
+  leaf-is : readExpr depth s at ≡ readNum s at then (λ x n. got (num-expr x) n)
+  unfolding readLeaf orNum
+  leaf-is = expr-leaf s at b eb depth e ∙ ap (λ o. orNum o (readNum s at)) (coded-none (readWord s at) r er h)
+
+  pub double-read : (x : Float) (n : ℕ) → v ≡ DoubleRead.Is x n → (q : Num) × (readExpr depth s at ≡ got (num-expr q) n) × (x ≡ numValue q)
+  unfolding _then_
+  double-read x n i = let (q, eq, ex) = doubled-got (readNum s at) v ev x n i in (q, leaf-is ∙ ap (λ o. o then (λ x n. got (num-expr x) n)) eq, ex)
+
+  pub no-leaf : v ≡ DoubleRead.Not → readExpr depth s at ≡ none
+  unfolding _then_
+  no-leaf i = leaf-is ∙ ap (λ o. o then (λ x n. got (num-expr x) n)) (doubled-none (readNum s at) v ev i)

@@ -1,0 +1,31 @@
+-- `sheets::rows::apply_aer` meets its contract. Assumes nothing.
+use mathlib.Core.Path.{ap, _∙_}
+use Rattle.sheets.specs.Applied.{aer}
+use Rattle.sheets.proofs.FamilyLaws.{aer-row}
+use Rattle.sheets.specs.declared.value.Value.{Value}
+use Rattle.sheets.specs.declared.args.Applied.{Applied}
+use borrow.Author.Needs.{needs}
+use Rattle.sheets.proofs.rows.apply_aer.Statement.{statement}
+use Rattle.sheets.proofs.rows.apply_aer.Tie as tie
+
+aer-of-requires : tie.Need-aer-of-requires
+aer-of-requires c κs = search needs
+
+enum-known-t : tie.Need-enum-known-t
+enum-known-t c = search needs
+
+from-aer-requires : tie.Need-from-aer-requires
+from-aer-requires c κs = search needs
+
+enum-told : tie.Need-enum-told
+enum-told c = search needs
+
+returns : tie.Need-returns
+returns c = ap (λ z. Applied.Value (Value.Vector z)) (c .from-aer .ensures) ∙ aer-row _ _ _ _ (c .before .before .before .before .aer-of .ensures ∙ ap aer (c .before .before .t .given .1))
+
+returns-2 : tie.Need-returns-2
+returns-2 c = aer-row (c .before .before .before .args .e) (c .before .before .before .args .o) _ _ (c .before .before .aer-of .ensures ∙ ap aer (c .enum-told .given .1))
+
+pub apply-aer-spec : {M : Type 1} → statement M
+apply-aer-spec =
+    tie.close (tie.spec aer-of-requires enum-known-t from-aer-requires enum-told returns returns-2)

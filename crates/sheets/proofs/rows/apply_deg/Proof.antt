@@ -1,0 +1,26 @@
+-- `sheets::rows::apply_deg` meets its contract. Assumes nothing.
+use mathlib.Core.Path.{refl}
+use Rattle.sheets.specs.Letters.{hold}
+use Rattle.sheets.specs.Table.{table}
+use Rattle.sheets.specs.Lookup.{find}
+use Rattle.sheets.proofs.HeldLaws.{is-𝐧, not-𝐧}
+use borrow.Author.Needs.{needs}
+use Rattle.sheets.proofs.rows.apply_deg.Statement.{statement}
+use Rattle.sheets.proofs.rows.apply_deg.Tie as tie
+
+enum-known-p : tie.Need-enum-known-p
+enum-known-p c = search needs
+
+returns : tie.Need-returns
+unfolding table find hold
+returns c = rw (not-𝐧 _ (c .match .keys2)) refl
+
+from-degrees-requires : tie.Need-from-degrees-requires
+from-degrees-requires c κs = search needs
+
+returns-2 : tie.Need-returns-2
+unfolding table find hold
+returns-2 c = rw (is-𝐧 (c .before .before .p .given .1), c .from-degrees .ensures) refl
+
+pub apply-deg-spec : {M : Type 1} → statement M
+apply-deg-spec = tie.close (tie.spec enum-known-p returns from-degrees-requires returns-2)

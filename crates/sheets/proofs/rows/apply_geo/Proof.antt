@@ -1,0 +1,30 @@
+-- `sheets::rows::apply_geo` meets its contract. Assumes nothing.
+use mathlib.Core.Path.{refl}
+use Rattle.sheets.specs.Table.{table}
+use Rattle.sheets.specs.Lookup.{find}
+use borrow.Author.Needs.{needs}
+use Rattle.sheets.proofs.rows.apply_geo.Statement.{statement}
+use Rattle.sheets.proofs.rows.apply_geo.Tie as tie
+
+lengths-of-requires : tie.Need-lengths-of-requires
+lengths-of-requires c κs = search needs
+
+enum-known-t : tie.Need-enum-known-t
+enum-known-t c = search needs
+
+new-requires : tie.Need-new-requires
+new-requires c κs = search needs
+
+enum-told : tie.Need-enum-told
+enum-told c = search needs
+
+returns : tie.Need-returns
+unfolding table find
+returns c = rw (c .before .before .before .before .lengths-of .ensures, c .before .before .t .given .1, c .new .ensures) refl
+
+returns-2 : tie.Need-returns-2
+unfolding table find
+returns-2 c = rw (c .before .before .lengths-of .ensures, c .enum-told .given .1) refl
+
+pub apply-geo-spec : {M : Type 1} → statement M
+apply-geo-spec = tie.close (tie.spec lengths-of-requires enum-known-t new-requires enum-told returns returns-2)

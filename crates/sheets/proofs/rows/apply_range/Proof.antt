@@ -1,0 +1,26 @@
+-- `sheets::rows::apply_range` meets its contract. Assumes nothing.
+use mathlib.Core.Path.{refl}
+use Rattle.sheets.specs.Letters.{hold}
+use Rattle.sheets.specs.Table.{table}
+use Rattle.sheets.specs.Lookup.{find}
+use Rattle.sheets.proofs.HeldLaws.{is-𝐯, not-𝐯}
+use borrow.Author.Needs.{needs}
+use Rattle.sheets.proofs.rows.apply_range.Statement.{statement}
+use Rattle.sheets.proofs.rows.apply_range.Tie as tie
+
+enum-known-p : tie.Need-enum-known-p
+enum-known-p c = search needs
+
+returns : tie.Need-returns
+unfolding table find hold
+returns c = rw (not-𝐯 _ (c .match .keys2)) refl
+
+slant-range-requires : tie.Need-slant-range-requires
+slant-range-requires c κs = search needs
+
+returns-2 : tie.Need-returns-2
+unfolding table find hold
+returns-2 c = rw (is-𝐯 (c .before .before .p .given .1), c .slant-range .ensures) refl
+
+pub apply-range-spec : {M : Type 1} → statement M
+apply-range-spec = tie.close (tie.spec enum-known-p returns slant-range-requires returns-2)

@@ -1,0 +1,26 @@
+-- `sheets::rows::apply_rz` meets its contract. Assumes nothing.
+use mathlib.Core.Path.{refl}
+use Rattle.sheets.specs.Letters.{hold}
+use Rattle.sheets.specs.Table.{table}
+use Rattle.sheets.specs.Lookup.{find}
+use Rattle.sheets.proofs.HeldLaws.{is-𝐟, not-𝐟}
+use borrow.Author.Needs.{needs}
+use Rattle.sheets.proofs.rows.apply_rz.Statement.{statement}
+use Rattle.sheets.proofs.rows.apply_rz.Tie as tie
+
+enum-known-p : tie.Need-enum-known-p
+enum-known-p c = search needs
+
+returns : tie.Need-returns
+unfolding table find hold
+returns c = rw (not-𝐟 _ (c .match .keys2)) refl
+
+r2zyx-requires : tie.Need-r2zyx-requires
+r2zyx-requires c κs = search needs
+
+returns-2 : tie.Need-returns-2
+unfolding table find hold
+returns-2 c = rw (is-𝐟 (c .before .before .before .before .p .given .1), c .before .r2zyx .ensures) refl
+
+pub apply-rz-spec : {M : Type 1} → statement M
+apply-rz-spec = tie.close (tie.spec enum-known-p returns r2zyx-requires returns-2)

@@ -1,0 +1,31 @@
+-- `sheets::rows::apply_vector` meets its contract. Assumes nothing.
+use mathlib.Core.Path.{ap, _∙_}
+use Rattle.sheets.specs.Applied.{lengths}
+use Rattle.sheets.proofs.FamilyLaws.{vector-row}
+use Rattle.sheets.specs.declared.value.Value.{Value}
+use Rattle.sheets.specs.declared.args.Applied.{Applied}
+use borrow.Author.Needs.{needs}
+use Rattle.sheets.proofs.rows.apply_vector.Statement.{statement}
+use Rattle.sheets.proofs.rows.apply_vector.Tie as tie
+
+lengths-of-requires : tie.Need-lengths-of-requires
+lengths-of-requires c κs = search needs
+
+enum-known-t : tie.Need-enum-known-t
+enum-known-t c = search needs
+
+new-requires : tie.Need-new-requires
+new-requires c κs = search needs
+
+enum-told : tie.Need-enum-told
+enum-told c = search needs
+
+returns : tie.Need-returns
+returns c = ap (λ z. Applied.Value (Value.Vector z)) (c .new .ensures) ∙ vector-row _ _ _ _ (c .before .before .before .before .lengths-of .ensures ∙ ap lengths (c .before .before .t .given .1))
+
+returns-2 : tie.Need-returns-2
+returns-2 c = vector-row (c .before .before .before .args .e) (c .before .before .before .args .o) _ _ (c .before .before .lengths-of .ensures ∙ ap lengths (c .enum-told .given .1))
+
+pub apply-vector-spec : {M : Type 1} → statement M
+apply-vector-spec =
+    tie.close (tie.spec lengths-of-requires enum-known-t new-requires enum-told returns returns-2)

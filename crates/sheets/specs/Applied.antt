@@ -1,0 +1,80 @@
+-- What the code's operators answer, against the rows of the kind table.
+use mathlib.Core.Path.{_≡_}
+use mathlib.Core.List.{List, [], _∷_}
+use mathlib.Core.Option.{Option, none, some}
+use mathlib.Core.Bool.{Bool, true, false}
+use Prim.Native.Nat.{ℕ}
+use Rattle.frames.specs.declared.ellipsoid.Ellipsoid.{Ellipsoid}
+use Rattle.frames.specs.declared.orientation.Orientation.{Orientation}
+use Rattle.frames.specs.declared.orientation.Orientation.the-variants.{Enu, Ned, Body, Wan}
+use Rattle.sheets.specs.declared.value.Value.{Value}
+use Rattle.sheets.specs.declared.args.Args.{Args}
+use Rattle.sheets.specs.declared.args.Args.the-variants.{None, One, Two, Three, Four, Five}
+use Rattle.sheets.specs.declared.args.Applied.{Applied}
+use Rattle.sheets.specs.declared.args.Applied.the-variants.{Value as value, NoRow, Centre}
+use Rattle.sheets.specs.declared.args.Lengths.{Lengths}
+use Rattle.sheets.specs.declared.args.Aer.{Aer}
+use Rattle.sheets.specs.Text.{Word, ascii}
+use Rattle.sheets.specs.Grammar.{IsWord}
+use Rattle.sheets.specs.Codes.{codeOf}
+use Rattle.sheets.specs.Letters.{Holds, 𝐚, 𝐥}
+use Rattle.sheets.specs.Table.{on, table}
+use Rattle.sheets.specs.Lookup.{Hit, find}
+
+-- ---- the answer
+
+abbrev pub unlessNear : Bool → Applied → Applied
+unlessNear true x = x
+unlessNear false x = Centre
+
+-- the row that fits: the test of refusal 8, then the row by its definition, before the test of refusal 7
+abbrev pub applied : Ellipsoid → Option Hit → Applied
+applied e none = NoRow
+applied e (some h) =
+    let r = h .row in
+    unlessNear (on (r .takes) (r .centred e) (h .args)) (value (on (r .takes) (r .apply e) (h .args)))
+
+-- the answer for the word that has the code
+pub record Applies (e : Ellipsoid) (code : ℕ) (vs : List Value) (r : Applied) : Type 0 where
+  pub is : (w : Word) → IsWord w → codeOf w ≡ code → r ≡ applied e (find table w vs)
+
+-- ---- the arguments
+
+abbrev pub values : Args → List Value
+values None = []
+values (One p) = p ∷ []
+values (Two p q) = p ∷ q ∷ []
+values (Three p q j) = p ∷ q ∷ j ∷ []
+values (Four p q j s) = p ∷ q ∷ j ∷ s ∷ []
+values (Five p q j s t) = p ∷ q ∷ j ∷ s ∷ t ∷ []
+
+-- with one more; a bracket has at most five
+abbrev pub pushed : Args → Value → Args
+pushed None x = One x
+pushed (One p) x = Two p x
+pushed (Two p q) x = Three p q x
+pushed (Three p q j) x = Four p q j x
+pushed (Four p q j s) x = Five p q j s x
+pushed (Five p q j s t) x = Five p q j s t
+
+abbrev pub lengths : Lengths → Option (Holds (𝐥 ∷ 𝐥 ∷ 𝐥 ∷ []))
+lengths (Lengths.Are x y z) = some (x, (y, (z, tt)))
+lengths Lengths.Not = none
+
+abbrev pub aer : Aer → Option (Holds (𝐚 ∷ 𝐚 ∷ 𝐥 ∷ []))
+aer (Aer.Are x y z) = some (x, (y, (z, tt)))
+aer Aer.Not = none
+
+-- ---- words by an orientation
+
+abbrev pub vectorWord : Orientation → Word
+vectorWord Enu = ascii "venu"
+vectorWord Ned = ascii "vned"
+vectorWord Body = ascii "vbody"
+vectorWord Wan = ascii "vwan"
+
+abbrev pub aerWord : Orientation → Word
+aerWord Enu = ascii "aenu"
+aerWord Ned = ascii "aned"
+aerWord Body = ascii "abody"
+aerWord Wan = ascii "awan"
