@@ -32,33 +32,15 @@ impl Numbered for WanderAzimuth {
     const NUMBER: u64 = 3;
 }
 
-// The body with the type O of the orientation that the first word says.
+// The body with the type O of the orientation that the first word says; with another for the body frame where the Rust leaves that out.
 macro_rules! oriented {
     ($i:expr, $o:ident => $body:expr) => {
-        match $i.0[0] {
-            0 => {
-                type $o = Enu;
-                $body
-            }
-            1 => {
-                type $o = Ned;
-                $body
-            }
-            2 => {
-                type $o = Body;
-                $body
-            }
-            _ => {
-                type $o = WanderAzimuth;
-                $body
-            }
-        }
+        oriented!($i, $o => $body, {
+            type $o = Body;
+            $body
+        })
     };
-}
-
-// The same where the Rust leaves out the body.
-macro_rules! level {
-    ($i:expr, $o:ident => $body:expr, $other:expr) => {
+    ($i:expr, $o:ident => $body:expr, $at_body:expr) => {
         match $i.0[0] {
             0 => {
                 type $o = Enu;
@@ -68,7 +50,7 @@ macro_rules! level {
                 type $o = Ned;
                 $body
             }
-            2 => $other,
+            2 => $at_body,
             _ => {
                 type $o = WanderAzimuth;
                 $body
@@ -215,15 +197,15 @@ pub static OPERATIONS: [Operation; 54] = [
         o.f(BodyFrame::looking_at_geodetic(i.d(4), i.d(8), i.a(12), i.e()))
     }),
     made("LocalFrame::rotate_around_z", 22, &[Level, Frame, Turn], |i, o| {
-        level!(i, O => o.f(i.f::<O>().rotate_around_z(i.a(22))), unreachable!())
+        oriented!(i, O => o.f(i.f::<O>().rotate_around_z(i.a(22))), unreachable!())
     }),
     made("LocalFrame::local_to_earth_matrix", 9, &[Orientation, Frame], |i, o| {
-        level!(i, O => o.m(i.f::<O>().local_to_earth_matrix()), o.m(i.f::<Body>().dir_rm))
+        oriented!(i, O => o.m(i.f::<O>().local_to_earth_matrix()), o.m(i.f::<Body>().dir_rm))
     }),
     made("LocalFrame::earth_to_local_matrix", 9, &[Orientation, Frame], |i, o| {
-        level!(i, O => o.m(i.f::<O>().earth_to_local_matrix()), o.m(i.f::<Body>().inv_rm))
+        oriented!(i, O => o.m(i.f::<O>().earth_to_local_matrix()), o.m(i.f::<Body>().inv_rm))
     }),
-    made("LocalFrame::origin", 3, &[Orientation, Frame], |i, o| level!(i, O => o.g(i.f::<O>().origin()), o.v(i.f::<Body>().origin))),
+    made("LocalFrame::origin", 3, &[Orientation, Frame], |i, o| oriented!(i, O => o.g(i.f::<O>().origin()), o.v(i.f::<Body>().origin))),
     made("LocalFrame::transform", 22, &[Orientation, Frame, Vector, Turn, Turn, Turn], |i, o| {
         oriented!(i, O => o.f(i.f::<O>().transform(i.w(22), i.a(25), i.a(26), i.a(27))))
     }),
