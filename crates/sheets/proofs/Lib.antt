@@ -40,3 +40,5 @@ pub mod Walks
 pub mod Told
 pub mod FormMeans
 pub mod Slices
+pub mod WritingLaws
+pub mod LineText

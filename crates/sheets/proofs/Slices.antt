@@ -11,6 +11,7 @@ use Rattle.sheets.specs.Grammar.{Letter, Digit, Each, IsWord, printLine}
 use Rattle.sheets.specs.Codes.{codeOf}
 use Rattle.sheets.specs.Reader.{got, readWord, readLine}
 use Rattle.sheets.specs.Views.{coded}
+pub use Rattle.sheets.specs.Writing.{part}
 use Rattle.sheets.specs.declared.bytes.WordRead.{WordRead}
 use Rattle.sheets.proofs.Spans.{Spans, spans-end, spans-drop, drop-spans, holds-at}
 use Rattle.sheets.proofs.ReaderLaws.{byte-inside}
@@ -18,10 +19,6 @@ use Rattle.sheets.proofs.TokenLaws.{WordAt, word-sound}
 use Rattle.sheets.proofs.CodeLaws.{code-same}
 use Rattle.sheets.proofs.LineLaws.{LineStands, line-sound, line-complete}
 use Rattle.sheets.proofs.Viewed.{coded-got}
-
--- the bytes from `at` to n
-abbrev pub part : List ℕ → ℕ → ℕ → List ℕ
-part s at n = take (n - at) (drop at s)
 
 part-is : (s x : List ℕ) (at n : ℕ) → Spans s x at n → n ≤ length s → part s at n ≡ x
 part-is s x at n p h =

@@ -21,11 +21,11 @@ use Rattle.sheets.specs.Answers.{ranText}
 
 -- ---- an output line
 
-hex-length : (k b : ℕ) (t : List ℕ) → length (hex k b t) ≡ k + length t
+pub hex-length : (k b : ℕ) (t : List ℕ) → length (hex k b t) ≡ k + length t
 hex-length zero b t = omega arith
 hex-length (suc k) b t = hex-length k (b / 16) (hexDigit (b % 16) ∷ t) ∙ omega arith
 
-fields-length : (xs : List Float) → length (fieldsText xs) ≡ 17 * length xs
+pub fields-length : (xs : List Float) → length (fieldsText xs) ≡ 17 * length xs
 fields-length [] = refl
 fields-length (x ∷ xs) =
     let h = hex-length 16 (toBits binary64 x) [] in
@@ -33,7 +33,7 @@ fields-length (x ∷ xs) =
     let m = length-append (field x) (fieldsText xs) in
     omega arith
 
-few : (x : Value) → length (fields x) ≤ 12
+pub few : (x : Value) → length (fields x) ≤ 12
 few (Number x) = omega arith
 few (Radians x) = omega arith
 few (Metres x) = omega arith
@@ -42,7 +42,7 @@ few (Geodetic x) = omega arith
 few (Vector x) = omega arith
 few (Frame x) = omega arith
 
-name-length : (k : Kind) → length (kindName k) ≤ 5
+pub name-length : (k : Kind) → length (kindName k) ≤ 5
 name-length number = omega arith
 name-length angle = omega arith
 name-length len = omega arith
@@ -57,7 +57,7 @@ name-length (frame Ned) = omega arith
 name-length (frame Body) = omega arith
 name-length (frame Wan) = omega arith
 
-line-length : (w : Word) (x : Value) → length w ≤ 12 → length (outputLine w x) ≤ 223
+pub line-length : (w : Word) (x : Value) → length w ≤ 12 → length (outputLine w x) ≤ 223
 unfolding outputLine
 line-length w x h =
     let p = name-length (kindOf x) in
@@ -65,7 +65,7 @@ line-length w x h =
     let r = fields-length (fields x) in
     simp length-append (omega arith)
 
-word-length : (w : Word) → IsWord w → length w ≤ 12
+pub word-length : (w : Word) → IsWord w → length w ≤ 12
 word-length [] t = absurd t
 word-length (c ∷ w) t = let h = t .2 in omega arith
 

@@ -20,4 +20,5 @@ pub mod Claim
 pub mod Applied
 pub mod KindCodes
 pub mod Views
+pub mod Writing
 pub mod Computed

@@ -1,8 +1,9 @@
-// Bore sheets: their values and the table of names, the reader of lines, words, numbers and expressions, the rows of the kind table and the limits. The check and the run come above these.
+// Bore sheets: their values and the table of names, the reader of lines, words, numbers and expressions, the rows of the kind table, the limits and the text of a value. The check and the run come above these.
 pub mod args;
 pub mod bytes;
 pub mod dispatch;
 pub mod expr;
+pub mod fields;
 pub mod form;
 pub mod frame_rows;
 pub mod head;
@@ -11,4 +12,5 @@ pub mod limits;
 pub mod lines;
 pub mod num;
 pub mod rows;
+pub mod text;
 pub mod value;
