@@ -3,7 +3,7 @@ pub mod args;
 pub mod bytes;
 pub mod dispatch;
 pub mod expr;
-pub mod fields;
+mod fields;
 pub mod form;
 pub mod frame_rows;
 pub mod head;
