@@ -42,3 +42,4 @@ pub mod FormMeans
 pub mod Slices
 pub mod WritingLaws
 pub mod LineText
+pub mod FirstLineSteps

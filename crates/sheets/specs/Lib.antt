@@ -22,3 +22,4 @@ pub mod KindCodes
 pub mod Views
 pub mod Writing
 pub mod Computed
+pub mod FirstLines

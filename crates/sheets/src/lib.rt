@@ -4,6 +4,7 @@ pub mod bytes;
 pub mod dispatch;
 pub mod expr;
 mod fields;
+pub mod first_line;
 pub mod form;
 pub mod frame_rows;
 pub mod head;
