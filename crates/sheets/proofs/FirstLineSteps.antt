@@ -10,8 +10,8 @@ use Rattle.numbers.specs.Lengths.{metres}
 use Rattle.numbers.specs.declared.length.Length.{Length}
 use Rattle.frames.specs.Ellipsoids.{ellipsoid, wgs84 as surfaceWgs84}
 use Rattle.frames.specs.declared.ellipsoid.Ellipsoid.{Ellipsoid}
-use Rattle.sheets.specs.Trees.{Num, Head, wgs84, custom}
-use Rattle.sheets.specs.Reader.{Got, none, got, readNum, readHead}
+use Rattle.sheets.specs.Trees.{Num, custom}
+use Rattle.sheets.specs.Reader.{got, readNum, readHead}
 use Rattle.sheets.specs.Limits.{numValue, between}
 use Rattle.sheets.specs.Machine.{surface}
 use Rattle.sheets.specs.Answers.{ranged}

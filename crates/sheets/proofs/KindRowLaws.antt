@@ -42,6 +42,10 @@ kind-at (frame Ned) = (refl, omega arith)
 kind-at (frame Body) = (refl, omega arith)
 kind-at (frame Wan) = (refl, omega arith)
 
+-- and so it is not 255
+pub kind-small : (k : Kind) → kindCode k < 13
+kind-small k = kind-at k .1
+
 -- the key, its last kind first
 abbrev backKey : List Kind → ℕ
 backKey [] = 0
@@ -96,7 +100,7 @@ word-self : (w : Word) → T (sameWord w w)
 word-self [] = tt
 word-self (b ∷ w) = yes-and (eqb b b) (sameWord w w) (eqb-refl b) (word-self w)
 
-words-agree : (v w : Word) → IsWord v → IsWord w → eqb (codeOf v) (codeOf w) ≡ sameWord w v
+pub words-agree : (v w : Word) → IsWord v → IsWord w → eqb (codeOf v) (codeOf w) ≡ sameWord w v
 words-agree v w hv hw =
     same-test _ _
     (λ t. subst (λ u. T (sameWord u v)) (code-same v w hv hw (eqb→eq (codeOf v) (codeOf w) t)) (word-self v))
@@ -201,11 +205,11 @@ rows-spelt : T (rowsSpelt table)
 unfolding table
 rows-spelt = tt
 
-abbrev every : (ℕ → Bool) → List ℕ → Bool
+abbrev pub every : (ℕ → Bool) → List ℕ → Bool
 every f [] = true
 every f (j ∷ js) = f j && every f js
 
-of-every : (f : ℕ → Bool) (js : List ℕ) → T (every f js) → (x : ℕ) → T (hasKey js x) → T (f x)
+pub of-every : (f : ℕ → Bool) (js : List ℕ) → T (every f js) → (x : ℕ) → T (hasKey js x) → T (f x)
 of-every f [] t x h = absurd h
 of-every f (j ∷ js) t x h =
     let p = and-yes (f j) (every f js) t in

@@ -4,7 +4,6 @@ use Prim.Native.Nat.{ℕ}
 use mathlib.Core.Path.{_≡_}
 use mathlib.Core.Bool.{Bool, true, false}
 use mathlib.Core.List.{List}
-use Rattle.frames.specs.declared.ellipsoid.Ellipsoid.{Ellipsoid}
 use Rattle.sheets.specs.Trees.{Num, Head, custom}
 use Rattle.sheets.specs.Reader.{Got, none, got, readNum}
 use Rattle.sheets.specs.Machine.{surface}

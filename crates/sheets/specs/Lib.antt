@@ -23,3 +23,4 @@ pub mod Views
 pub mod Writing
 pub mod Computed
 pub mod FirstLines
+pub mod Walking

@@ -126,9 +126,9 @@ fn show_line(s: &[u8], at: usize) -> LineRead
 }
 
 // The codes of the words let and show.
-const LET: u64 = 16633;
+pub const LET: u64 = 16633;
 
-const SHOW: u64 = 973937;
+pub const SHOW: u64 = 973937;
 
 // The rest of a line that opens with the word of this code.
 fn line_of(s: &[u8], code: u64, at: usize) -> LineRead

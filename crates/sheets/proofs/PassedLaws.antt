@@ -1,0 +1,189 @@
+-- The words of the lines passed, by their codes: the readings, a word's kind, and one line more. Assumes nothing.
+use Prim.Native.Nat.{ℕ, zero, suc, _+_, _-_, _<_, _≤_}
+use native.Mathlib.Omega.{arith}
+use native.Mathlib.Numerals.{sub-one}
+use mathlib.Core.Path.{_≡_, refl, sym, ap, _∙_, subst}
+use mathlib.Core.Bool.{Bool, true, false, _||_, _&&_}
+use mathlib.Core.List.{List, [], _∷_, map}
+use mathlib.Core.Option.{Option, some}
+use lib.Dec.{T, eqb, eqb→eq, leb}
+use lib.ListN.{length, set, getD}
+use lib.Seq.{getD-set-same, getD-set-other}
+use mir.Facts.{and-yes}
+use mir.Val.{hasKey}
+use borrow.Author.Tests.{eq-eqb, ne-eqb, eqb-true, eqb-false, le-leb, lt-leb}
+use Rattle.sheets.specs.Text.{Word}
+use Rattle.sheets.specs.Grammar.{IsWord}
+use Rattle.sheets.specs.Codes.{wordChar, codeFrom, codeOf}
+use Rattle.sheets.specs.Reader.{Got, none, got, readWord, reading}
+use Rattle.sheets.specs.Kinds.{Kind, number, kindCode}
+use Rattle.sheets.specs.Table.{when}
+use Rattle.sheets.specs.Lookup.{sameWord}
+use Rattle.sheets.specs.Names.{Known, orElse, lookup, readingWords}
+use Rattle.sheets.specs.KindCodes.{kindOr255}
+use Rattle.sheets.specs.Check.{readingKinds}
+use Rattle.sheets.proofs.CodeLaws.{word-by}
+use Rattle.sheets.proofs.KindExact.{same-word}
+use Rattle.sheets.proofs.KindRowLaws.{words-agree, every, of-every}
+use Rattle.sheets.specs.Walking.{kindFrom, ReadingKind, Stands}
+
+-- ---- the readings
+
+abbrev codesOf : List Word → List ℕ
+codesOf [] = []
+codesOf (v ∷ vs) = codeOf v ∷ codesOf vs
+
+abbrev AreWords : List Word → Type 0
+AreWords [] = Unit {0}
+AreWords (v ∷ vs) = IsWord v × AreWords vs
+
+by-codes : (vs : List Word) → AreWords vs → (w : Word) → IsWord w → when (hasKey (codesOf vs) (codeOf w)) 0 255 ≡ kindOr255 (lookup w (map (λ v. (v, number)) vs))
+by-codes [] h w hw = refl
+by-codes (v ∷ vs) h w hw = rw (words-agree v w (h .0) hw) (go (sameWord w v) (by-codes vs (h .1) w hw))
+  where
+    go : (b : Bool) → when (hasKey (codesOf vs) (codeOf w)) 0 255 ≡ kindOr255 (lookup w (map (λ v. (v, number)) vs))
+        → when (b || hasKey (codesOf vs) (codeOf w)) 0 255 ≡ kindOr255 (orElse b number (lookup w (map (λ v. (v, number)) vs)))
+    go true e = refl
+    go false e = e
+
+-- the reader reads the word whole
+abbrev whole : Word → Got Word → Bool
+whole w none = false
+whole w (got v n) = sameWord v w && eqb n (length w)
+
+abbrev allWhole : List Word → Bool
+allWhole [] = true
+allWhole (v ∷ vs) = whole v (readWord v 0) && allWhole vs
+
+whole-word : (w : Word) (o : Got Word) → readWord w 0 ≡ o → T (whole w o) → IsWord w
+whole-word w none e t = absurd t
+whole-word w (got v n) e t =
+    let (p, q) = and-yes (sameWord v w) (eqb n (length w)) t in
+    word-by w (e ∙ ap (λ x. got x n) (same-word v w p) ∙ ap (got w) (eqb→eq n (length w) q))
+
+whole-words : (vs : List Word) → T (allWhole vs) → AreWords vs
+whole-words [] t = tt
+whole-words (v ∷ vs) t =
+    let (p, q) = and-yes (whole v (readWord v 0)) (allWhole vs) t in
+    (whole-word v (readWord v 0) refl p, whole-words vs q)
+
+words-are : AreWords readingWords
+unfolding reading
+words-are = whole-words readingWords tt
+
+abbrev readingCodes : List ℕ
+readingCodes = codesOf readingWords
+
+of-reading : (c r : ℕ) (b : Bool) → hasKey readingCodes c ≡ b → r ≡ when b 0 255 → ReadingKind c r
+of-reading c r b e h = record { is = λ w hw i. h ∙ ap (λ x. when x 0 255) (sym e) ∙ ap (λ x. when (hasKey readingCodes x) 0 255) (sym i) ∙ by-codes readingWords words-are w hw }
+
+yes-is : (b : Bool) → T b → b ≡ true
+yes-is true t = refl
+yes-is false t = absurd t
+
+-- what holds of each of the numbers below n
+abbrev allBelow : (ℕ → Bool) → ℕ → Bool
+allBelow f zero = true
+allBelow f (suc n) = f n && allBelow f n
+
+below : (f : ℕ → Bool) (n : ℕ) → T (allBelow f n) → (i : ℕ) → i < n → T (f i)
+below f zero t i h = absurd (omega arith)
+below f (suc n) t i h =
+    let (p, q) = and-yes (f n) (allBelow f n) t in
+    go (eqb n i) refl p (below f n q i)
+  where
+    go : (b : Bool) → eqb n i ≡ b → T (f n) → (i < n → T (f i)) → T (f i)
+    go true e p k = subst (λ j. T (f j)) (eqb-true n i e) p
+    go false e p k = k (omega (arith, eqb-false n i e))
+
+-- the codes of r0 to r9, and those of r10 to r15
+pub reading-low : (c : ℕ) → 693 ≤ c → c ≤ 702 → ReadingKind c 0
+unfolding wordChar codeFrom
+reading-low c l h =
+    let e : 693 + (c - 693) ≡ c = omega arith in
+    of-reading c 0 true (yes-is _ (subst (λ x. T (hasKey readingCodes x)) e (below (λ i. hasKey readingCodes (693 + i)) 10 tt (c - 693) (omega arith)))) refl
+
+pub reading-high : (c : ℕ) → 25705 ≤ c → c ≤ 25710 → ReadingKind c 0
+unfolding wordChar codeFrom
+reading-high c l h =
+    let e : 25705 + (c - 25705) ≡ c = omega arith in
+    of-reading c 0 true (yes-is _ (subst (λ x. T (hasKey readingCodes x)) e (below (λ i. hasKey readingCodes (25705 + i)) 6 tt (c - 25705) (omega arith)))) refl
+
+abbrev inRanges : ℕ → Bool
+inRanges c = (leb 693 c && leb c 702) || (leb 25705 c && leb c 25710)
+
+in-ranges : (ks : List ℕ) → T (every inRanges ks) → (c : ℕ) → inRanges c ≡ false → hasKey ks c ≡ false
+in-ranges ks t c h = go (hasKey ks c) refl
+  where
+    go : (b : Bool) → hasKey ks c ≡ b → hasKey ks c ≡ false
+    go true e = absurd (subst T h (of-every inRanges ks t c (subst T (sym e) tt)))
+    go false e = e
+
+reading-not : (c : ℕ) → inRanges c ≡ false → ReadingKind c 255
+unfolding wordChar codeFrom
+reading-not c h = of-reading c 255 false (in-ranges readingCodes tt c h) refl
+
+pub reading-before : (c : ℕ) → c < 693 → ReadingKind c 255
+reading-before c h = reading-not c (rw (lt-leb 693 c h, lt-leb 25705 c (omega arith)) refl)
+
+pub reading-between : (c : ℕ) → 702 < c → c < 25705 → ReadingKind c 255
+reading-between c l h = reading-not c (rw (le-leb 693 c (omega arith), lt-leb c 702 l, lt-leb 25705 c h) refl)
+
+pub reading-behind : (c : ℕ) → 25710 < c → ReadingKind c 255
+reading-behind c h = reading-not c (rw (le-leb 693 c (omega arith), lt-leb c 702 (omega arith), le-leb 25705 c (omega arith), lt-leb c 25710 h) refl)
+
+-- ---- a word's kind, a line at a time
+
+module _ (words codes : List ℕ) (w : Word) where
+  pub found-here : (i : ℕ) → 0 < i → getD words i 0 ≡ codeOf w → getD codes i 0 ≡ kindFrom words codes i w
+  unfolding kindFrom
+  found-here zero pos e = absurd (omega arith)
+  found-here (suc n) pos e = rw (eq-eqb (getD words (suc n) 0) (codeOf w) e) refl
+
+  pub found-before : (i : ℕ) → 0 < i → (getD words i 0 ≡ codeOf w → ⊥) → kindFrom words codes (i - 1) w ≡ kindFrom words codes i w
+  unfolding kindFrom
+  found-before zero pos e = absurd (omega arith)
+  found-before (suc n) pos e = rw (ne-eqb (getD words (suc n) 0) (codeOf w) e, sub-one) refl
+
+  pub found-last : (i : ℕ) → i ≤ 0 → kindOr255 (lookup w readingKinds) ≡ kindFrom words codes i w
+  unfolding kindFrom
+  found-last zero h = refl
+  found-last (suc n) h = absurd (omega arith)
+
+-- ---- one line more
+
+-- the lines before the place i stay as they are
+kept : (words codes : List ℕ) (i a b n : ℕ) → n < i → (w : Word) → kindFrom (set words i a) (set codes i b) n w ≡ kindFrom words codes n w
+unfolding kindFrom
+kept words codes i a b zero h w = refl
+kept words codes i a b (suc n) h w =
+    rw (getD-set-other words i (suc n) a 0 (omega arith), getD-set-other codes i (suc n) b 0 (omega arith), kept words codes i a b n (omega arith) w) refl
+
+module _ (words codes : List ℕ) (passed : ℕ) (ps : Known Kind) (st : Stands words codes passed ps) (lw : length words ≡ 96) (lc : length codes ≡ 96) (room : passed < 95) (w : Word) (hw : IsWord w) (k : Kind) where
+  one-more : (v : Word) → IsWord v
+      → kindFrom (set words (passed + 1) (codeOf w)) (set codes (passed + 1) (kindCode k)) (passed + 1) v ≡ when (sameWord v w) (kindCode k) (kindOr255 (lookup v ps))
+  unfolding kindFrom
+  one-more v hv = go (passed + 1) (omega arith) (omega arith)
+    where
+      go : (i : ℕ) → i ≡ suc passed → i < 96 → kindFrom (set words i (codeOf w)) (set codes i (kindCode k)) i v ≡ when (sameWord v w) (kindCode k) (kindOr255 (lookup v ps))
+      go zero e h = absurd (omega arith)
+      go (suc n) e h =
+          let en : n ≡ passed = omega arith in
+          rw (getD-set-same words (suc n) (codeOf w) 0 (omega arith), getD-set-same codes (suc n) (kindCode k) 0 (omega arith), words-agree w v hw hv)
+          (ap (when (sameWord v w) (kindCode k)) (kept words codes (suc n) (codeOf w) (kindCode k) n (omega arith) v ∙ ap (λ m. kindFrom words codes m v) en ∙ st .is v hv))
+
+  -- a let gives the word
+  pub stands-given : Stands (set words (passed + 1) (codeOf w)) (set codes (passed + 1) (kindCode k)) (passed + 1) ((w, k) ∷ ps)
+  stands-given = record { few = omega arith; is = λ v hv. one-more v hv ∙ go (sameWord v w) (lookup v ps) }
+    where
+      go : (b : Bool) (o : Option Kind) → when b (kindCode k) (kindOr255 o) ≡ kindOr255 (orElse b k o)
+      go true o = refl
+      go false o = refl
+
+  -- a show's word is known
+  pub stands-shown : lookup w ps ≡ some k → Stands (set words (passed + 1) (codeOf w)) (set codes (passed + 1) (kindCode k)) (passed + 1) ps
+  stands-shown e = record { few = omega arith; is = λ v hv. one-more v hv ∙ go v (sameWord v w) refl }
+    where
+      go : (v : Word) (b : Bool) → sameWord v w ≡ b → when b (kindCode k) (kindOr255 (lookup v ps)) ≡ kindOr255 (lookup v ps)
+      go v true h = ap kindOr255 (sym e ∙ ap (λ u. lookup u ps) (sym (same-word v w (subst T (sym h) tt))))
+      go v false h = refl

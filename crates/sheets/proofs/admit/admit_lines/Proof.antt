@@ -1,0 +1,95 @@
+-- `sheets::admit::admit_lines` meets its contract. Assumes nothing.
+use native.Mathlib.Omega.{arith}
+use Prim.Native.Nat.{_≤_, _-_}
+use mathlib.Core.Path.{_≡_, refl}
+use mathlib.Core.List.{List}
+use lib.ListN.{length, length-set}
+use borrow.Author.Needs.{needs}
+use Rattle.sheets.specs.Trees.{Line}
+use Rattle.sheets.specs.Reader.{formed, readLines}
+use Rattle.sheets.specs.Check.{stepsᶜ, startᶜ}
+use Rattle.sheets.proofs.AdmitSteps.{Midway, midway-start, walk-done, walk-over, walk-fault, walk-on}
+use Rattle.sheets.proofs.admit.admit_lines.Statement.{statement}
+use Rattle.sheets.proofs.admit.admit_lines.Tie as tie
+
+abbrev Inv-loop : tie.InvT-loop
+Inv-loop s start words₀ codes₀ passed₀ at₀ words codes passed at =
+    (passed ≤ 95) × (length words ≡ 96) × (length codes ≡ 96) × ((ls : List Line) → readLines 95 2 0 s start ≡ formed ls → Midway s at passed words codes (stepsᶜ ls 2 startᶜ))
+
+abbrev μ-loop : tie.MeasureT-loop
+μ-loop s start words₀ codes₀ passed₀ at₀ words codes passed at = 95 - passed
+
+loop-holds : tie.Need-loop-holds Inv-loop μ-loop
+loop-holds c = (omega arith, refl, refl, λ ls e. midway-start _ _ ls e)
+
+refused-requires : tie.Need-refused-requires Inv-loop μ-loop
+refused-requires c κs = search needs
+
+returns : tie.Need-returns Inv-loop μ-loop
+returns c = record { is = λ ls e. walk-over _ _ _ _ _ _ (c .before .before .before .loop .inv .3 ls e) (c .before .before .loop-test .taken) (c .before .if1 .taken) }
+
+line-kind-requires : tie.Need-line-kind-requires Inv-loop μ-loop
+line-kind-requires c κs = search needs
+
+enum-known-r : tie.Need-enum-known-r Inv-loop μ-loop
+enum-known-r c = search needs
+
+add-refused : tie.Need-add-refused Inv-loop μ-loop
+add-refused c = omega arith
+
+refused-requires-2 : tie.Need-refused-requires-2 Inv-loop μ-loop
+refused-requires-2 c κs = search needs
+
+returns-2 : tie.Need-returns-2 Inv-loop μ-loop
+returns-2 c = record { is = λ ls e. walk-fault _ _ _ _ _ _ (c .before .before .before .before .before .before .before .before .before .loop .inv .3 ls e) (c .before .before .before .before .before .before .before .before .loop-test .taken) _ (c .before .before .before .before .line-kind .ensures .is _ (c .before .before .before .before .before .before .before .before .before .loop .inv .3 ls e .stands)) _ (c .before .before .r .given .1) _ (c .refused2 .ensures) }
+
+enum-known-r-2 : tie.Need-enum-known-r-2 Inv-loop μ-loop
+enum-known-r-2 c = search needs
+
+add-passed : tie.Need-add-passed Inv-loop μ-loop
+add-passed c = omega arith
+
+mul-words : tie.Need-mul-words Inv-loop μ-loop
+mul-words c = omega arith
+
+array-write-words : tie.Need-array-write-words Inv-loop μ-loop
+array-write-words c = omega arith
+
+array-write-codes : tie.Need-array-write-codes Inv-loop μ-loop
+array-write-codes c = omega arith
+
+loop-less : tie.Need-loop-less Inv-loop μ-loop
+loop-less c = omega arith
+
+loop-again : tie.Need-loop-again Inv-loop μ-loop
+loop-again c = (omega arith, simp length-set (c .before .before .before .before .before .before .before .before .loop .inv .1), simp length-set (c .before .before .before .before .before .before .before .before .loop .inv .2), λ ls e. walk-on _ _ _ _ _ _ (c .before .before .before .before .before .before .before .before .loop .inv .3 ls e) (c .before .before .before .before .before .before .before .loop-test .taken) _ (c .before .before .before .line-kind .ensures .is _ (c .before .before .before .before .before .before .before .before .loop .inv .3 ls e .stands)) (c .before .before .before .before .before .before .if1 .left) (c .before .before .before .before .before .before .before .before .loop .inv .1) (c .before .before .before .before .before .before .before .before .loop .inv .2) _ _ _ (c .before .r2 .given .1))
+
+add-t23 : tie.Need-add-t23 Inv-loop μ-loop
+add-t23 c = omega arith
+
+returns-3 : tie.Need-returns-3 Inv-loop μ-loop
+returns-3 c = record { is = λ ls e. walk-done _ _ _ _ _ _ (c .before .loop .inv .3 ls e) (c .before .loop .inv .0) (c .before .loop .inv .2) (c .loop-test .left) }
+
+pub admit-lines-spec : {M : Type 1} → statement M
+admit-lines-spec =
+    tie.close
+    (tie.spec
+    Inv-loop
+    μ-loop
+    loop-holds
+    refused-requires
+    returns
+    line-kind-requires
+    enum-known-r
+    add-refused
+    refused-requires-2
+    returns-2
+    enum-known-r-2
+    add-passed
+    mul-words
+    array-write-words
+    array-write-codes
+    loop-less
+    loop-again
+    add-t23
+    returns-3)

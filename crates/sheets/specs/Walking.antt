@@ -1,0 +1,122 @@
+-- What the pieces of the check answer, said of the walk of Check.antt over what the reader of Reader.antt reads.
+-- No part of what must be believed: they only tie the code to the definitions.
+use Prim.Native.Nat.{ℕ, zero, suc, _≤_}
+use mathlib.Core.Path.{_≡_}
+use mathlib.Core.Bool.{Bool, true, false}
+use mathlib.Core.List.{List, _∷_}
+use lib.Dec.{eqb}
+use lib.ListN.{length, getD, take}
+use Rattle.sheets.specs.Text.{Word}
+use Rattle.sheets.specs.Trees.{Expr, Exprs, Line, let-line, show-line}
+use Rattle.sheets.specs.Grammar.{IsWord}
+use Rattle.sheets.specs.Codes.{codeOf}
+use Rattle.sheets.specs.Reader.{Got, got, readArgs, readExpr, formed, readLines}
+use Rattle.sheets.specs.Kinds.{Kind, kindCode}
+use Rattle.sheets.specs.Table.{when}
+use Rattle.sheets.specs.Names.{Known, lookup, barred}
+use Rattle.sheets.specs.KindCodes.{keyFrom, kindOr255}
+use Rattle.sheets.specs.Refusals.{name, Refusal, fault, refusalNumber}
+use Rattle.sheets.specs.Check.{Checked, fine, bad, thenᶜ, known?, kindOfExpr, kindsOfExprs, Walked, passes, refuses, stepsᶜ, readingKinds, startᶜ}
+use Rattle.sheets.specs.Answers.{Verdict, admitted, refused}
+use Rattle.sheets.specs.declared.kind_walk.KindRead.{KindRead}
+use Rattle.sheets.specs.declared.kind_walk.KeyRead.{KeyRead}
+use Rattle.sheets.specs.declared.admit.LineKind.{LineKind}
+use Rattle.sheets.specs.declared.admit.Outcome.{Outcome}
+use Rattle.sheets.specs.declared.admit.Admission.{Admission}
+
+-- ---- the words of the lines passed: line i + 1 has the word with the code at the place i of `words`, of the kind with the code there of `codes`
+
+-- the kind code of a word by the lines after line 1, the newest first, and then the readings; 255 where it is unknown
+unfoldable pub kindFrom : List ℕ → List ℕ → ℕ → Word → ℕ
+kindFrom words codes zero w = kindOr255 (lookup w readingKinds)
+kindFrom words codes (suc n) w = when (eqb (getD words (suc n) 0) (codeOf w)) (getD codes (suc n) 0) (kindFrom words codes n w)
+
+-- r is the kind code of the word with this code
+pub record ReadingKind (code r : ℕ) : Type 0 where
+  pub is : (w : Word) → IsWord w → codeOf w ≡ code → r ≡ kindOr255 (lookup w readingKinds)
+
+pub record FoundKind (words codes : List ℕ) (passed code r : ℕ) : Type 0 where
+  pub is : passed ≤ 95 → (w : Word) → IsWord w → codeOf w ≡ code → r ≡ kindFrom words codes passed w
+
+-- the lines passed stand for the known words ps
+pub record Stands (words codes : List ℕ) (passed : ℕ) (ps : Known Kind) : Type 0 where
+  pub few : passed ≤ 95
+  pub is : (w : Word) → IsWord w → kindFrom words codes passed w ≡ kindOr255 (lookup w ps)
+
+pub record ForKnown (words codes : List ℕ) (passed : ℕ) (P : Known Kind → Type 0) : Type 0 where
+  pub is : (ps : Known Kind) → Stands words codes passed ps → P ps
+
+-- ---- expressions
+
+-- a kind's code and the place after the expression, or the refusal's number
+unfoldable pub kindSaid : Checked Kind → ℕ → KindRead
+kindSaid (fine k) n = KindRead.Is (kindCode k) n
+kindSaid (bad f) n = KindRead.Refused (refusalNumber (fault f))
+
+-- r answers the expression that the reader reads at a place
+pub record ExprHas (s : List ℕ) (at depth : ℕ) (ps : Known Kind) (r : KindRead) : Type 0 where
+  pub is : (x : Expr) (n : ℕ) → readExpr depth s at ≡ got x n → r ≡ kindSaid (kindOfExpr x ps) n
+
+-- the same where no bracket stands
+pub record LeafHas (s : List ℕ) (at : ℕ) (ps : Known Kind) (r : KindRead) : Type 0 where
+  pub is : (getD s at 0 ≡ 40 → ⊥) → (depth : ℕ) → ExprHas s at depth ps r
+
+-- the key of the kinds, after those that made `key`
+unfoldable pub keySaid : ℕ → Checked (List Kind) → ℕ → KeyRead
+keySaid key (fine ks) n = KeyRead.Is (keyFrom key ks) n
+keySaid key (bad f) n = KeyRead.Refused (refusalNumber (fault f))
+
+-- r answers the arguments that the reader reads at a place, at most `left`
+pub record ArgsHave (s : List ℕ) (at depth left key : ℕ) (ps : Known Kind) (r : KeyRead) : Type 0 where
+  pub is : (xs : Exprs) (n : ℕ) → readArgs (readExpr depth s) left s at ≡ got xs n → r ≡ keySaid key (kindsOfExprs xs ps) n
+
+-- ---- lines
+
+abbrev pub lineWord : Line → Word
+lineWord (let-line w x) = w
+lineWord (show-line w) = w
+
+abbrev pub unbarred : Bool → Kind → Checked Kind
+unbarred true k = bad name
+unbarred false k = fine k
+
+-- the kind of a line's word, where refusals 5 and 6 let the line pass
+unfoldable pub lineKind : Line → Known Kind → Checked Kind
+lineKind (let-line w x) ps = thenᶜ (kindOfExpr x ps) (λ k. unbarred (barred w ps) k)
+lineKind (show-line w) ps = known? name (lookup w ps)
+
+-- the code of the line's word, its kind's code and the place of the next line, or the refusal's number
+unfoldable pub lineSaid : Word → Checked Kind → ℕ → LineKind
+lineSaid w (fine k) n = LineKind.Is (codeOf w) (kindCode k) n
+lineSaid w (bad f) n = LineKind.Refused (refusalNumber (fault f))
+
+-- r answers the line that the reader reads
+pub record LineHas (o : Got Line) (ps : Known Kind) (r : LineKind) : Type 0 where
+  pub is : (l : Line) (n : ℕ) → o ≡ got l n → r ≡ lineSaid (lineWord l) (lineKind l ps) n
+
+-- r tells whether the word with this code cannot be given
+pub record BarredWord (code : ℕ) (ps : Known Kind) (r : Bool) : Type 0 where
+  pub is : (w : Word) → IsWord w → codeOf w ≡ code → r ≡ barred w ps
+
+-- ---- a sheet
+
+-- as many lines as kind codes, and these codes
+abbrev pub Passing : List ℕ → Admission → Type 0
+Passing cs a = (a .outcome ≡ Outcome.Passes (length cs)) × (length cs ≤ 96) × (take (length cs) (a .codes) ≡ cs)
+
+-- the refusal's number and its line
+abbrev pub Refusing : Refusal → ℕ → Admission → Type 0
+Refusing f j a = a .outcome ≡ Outcome.Refuses (refusalNumber f) j
+
+unfoldable pub Walks : Walked → Admission → Type 0
+Walks (passes cs) a = Passing (255 ∷ cs) a
+Walks (refuses f j) a = Refusing (fault f) j a
+
+-- a answers the lines from line 2, which stands at this place
+pub record LinesWalk (s : List ℕ) (at : ℕ) (a : Admission) : Type 0 where
+  pub is : (ls : List Line) → readLines 95 2 0 s at ≡ formed ls → Walks (stepsᶜ ls 2 startᶜ) a
+
+-- a answers a whole sheet: refusals 3 to 6, or the kind code of each line
+unfoldable pub Admits : Verdict → Admission → Type 0
+Admits (admitted c cs) a = Passing cs a
+Admits (refused f j) a = Refusing f j a
