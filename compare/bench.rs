@@ -45,8 +45,8 @@ extern "C" fn rust_asin(x: f64) -> f64 {
 type One = unsafe extern "C" fn(f64) -> f64;
 type Two = unsafe extern "C" fn(f64, f64) -> f64;
 
-const INPUTS: usize = 1_000_000;
-const ROUNDS: usize = 7;
+const INPUTS: usize = 100_000;
+const ROUNDS: usize = 40;
 const COUNTED: u64 = 10_000_000;
 
 fn row(name: &str, inputs: &str, rust: impl Fn(usize) -> f64, rattle: impl Fn(usize) -> f64) {
@@ -107,13 +107,10 @@ impl FallBacks {
         }
     }
 
-    // w stands for a double or, where it is odd and above 2^53, for none.
+    // The whole numbers that are doubles.
     fn whole(&mut self, w: u64) {
         if w < 1 << 53 || w % 2 == 0 {
             self.root(w as f64);
-        } else {
-            self.count += 1;
-            self.slow += root_model::falls_back(w) as u64;
         }
     }
 
@@ -127,7 +124,7 @@ fn fall_backs(r: &mut Random) -> bool {
     println!("how often sqrt needs its digit loop, by a model of its test");
     let mut random = FallBacks::default();
     for _ in 0..COUNTED {
-        random.root(finite_above_zero(r));
+        random.root(f64::from_bits((1 << 52) + r.below(0x7fe0_0000_0000_0000)));
     }
     let mut squares = FallBacks::default();
     for _ in 0..COUNTED {
@@ -142,7 +139,7 @@ fn fall_backs(r: &mut Random) -> bool {
             }
         }
     }
-    let fine = random.report("random bits above zero");
+    let fine = random.report("random bits of normal numbers");
     let fine = squares.report("squares of 26 and 27 bits, and beside") && fine;
     edges.report("whole numbers beside 2^52, 2^53 and 2^54") && fine
 }

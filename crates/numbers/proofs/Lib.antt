@@ -8,6 +8,7 @@ pub mod Halves
 pub mod Rounded
 pub mod SignLaws
 pub mod TurnLaws
+pub mod ArcLaws
 pub mod RootGrid
 pub mod RootLaw
 pub mod Bounds

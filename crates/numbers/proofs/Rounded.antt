@@ -15,7 +15,7 @@ use lib.Ieee.Exact.{HasValue, units-val, odd-sign}
 use lib.Ieee.Nearest.{closest, closest-same, div-same}
 use lib.Ieee.Bits.{ofBits-toBits, is-false, cond-no}
 use Rattle.numbers.specs.Root.{sqrt, halves}
-use Rattle.numbers.specs.RootSteps.{unitsOf, unitsAt, Squared, Lifted, RootOf}
+use Rattle.numbers.specs.RootSteps.{unitsOf, unitsAt, Squared, Rounds, Lifted, RootOf}
 use Rattle.numbers.proofs.Isqrt.{below-or-not, four}
 use Rattle.numbers.proofs.Halves.{Placed, placed}
 
@@ -239,3 +239,21 @@ module _ (b w g root rest : ℕ) (B : 0 < b) (F : b < 9218868437227405312) (l : 
 
   pub rounded-up : root < rest → RootOf b (g * 4503599627370496 + (root + 1))
   rounded-up h = rooted (root + 1) (closest-up (halves (unitsOf b * 2 ^ 1074)) (2 ^ g) root (pow-pos g) (at .to) (at .up h)) (omega (arith, at-least w root rest s (l .low))) (omega (arith, s .short))
+
+-- ---- the root to the nearest whole number
+pub to-nearest : (b w g r : ℕ) → 0 < b → b < 9218868437227405312 → Lifted (unitsOf b * 2 ^ 1022) 1534 w g → Rounds w r → r < 2 ^ 53 → RootOf b (g * 4503599627370496 + r)
+to-nearest b w g r B F l n h = elim (below-or-not (w * 4503599627370496) (r * r)) [ inl k ↦ up r n h k | inr k ↦ down k ]
+  where
+    down : r * r ≤ w * 4503599627370496 → RootOf b (g * 4503599627370496 + r)
+    down k =
+        let q = w * 4503599627370496 - r * r in
+        let s : Squared w r q = record { whole = omega arith; less = omega (arith, n .over); short = h } in
+        rounded-down b w g r q B F l s (omega (arith, n .over))
+
+    up : (r : ℕ) → Rounds w r → r < 2 ^ 53 → w * 4503599627370496 < r * r → RootOf b (g * 4503599627370496 + r)
+    up zero n h k = absurd (omega arith)
+    up (suc p) n h k =
+        let q = w * 4503599627370496 - p * p in
+        let e : suc p * suc p ≡ p * p + 2 * p + 1 = omega arith in
+        let s : Squared w p q = record { whole = omega (arith, n .under); less = omega (arith, n .under); short = omega arith } in
+        subst (λ (x : ℕ). RootOf b (g * 4503599627370496 + x)) (omega arith) (rounded-up b w g p q B F l s (omega (arith, n .under)))

@@ -28,7 +28,7 @@ bits-of-number x f n =
 
 -- ---- the sign bit
 
-odd-sign : (d : ℕ) (s : Bool) (q k l : ℕ) → signBit (odd d s q k l) ≡ s
+pub odd-sign : (d : ℕ) (s : Bool) (q k l : ℕ) → signBit (odd d s q k l) ≡ s
 unfolding odd signBit
 odd-sign d s zero k l = refl
 odd-sign d s (suc q) k l = refl

@@ -10,6 +10,11 @@ pub record Squared (w root rest : ℕ) : Type 0 where
   pub less : rest ≤ 2 * root
   pub short : root < 2 ^ 53
 
+-- r is the root of w * 2 ^ 52 to the nearest whole number: w * 2 ^ 52 lies between (r - 1/2)² and (r + 1/2)²
+pub record Rounds (w r : ℕ) : Type 0 where
+  pub under : r * r < w * 4503599627370496 + r
+  pub over : w * 4503599627370496 ≤ r * r + r
+
 -- n is w * 4 ^ g, with a w of 53 or 54 digits, and g at most top
 pub record Lifted (n top w g : ℕ) : Type 0 where
   pub same : w * 4 ^ g ≡ n

@@ -6,11 +6,22 @@ ghost use mathlib.Core.Path.{_≡_};
 ghost use Prim.Native.Nat.{_≤_};
 ghost use lib.Dec.{eqb};
 ghost use lib.Ieee as Ieee;
-ghost use Rattle.numbers.specs.Ops.{num, pick};
+ghost use Rattle.numbers.specs.Ops.{_⊕_, _⊖_, _⊘_, num, pick};
+ghost use Rattle.numbers.specs.Floats.{pi};
 ghost use Rattle.numbers.specs.Arctangent as Arctangent;
 ghost use Rattle.numbers.specs.Arctangent.{atanPoly, atanUnit, atanBase, turnedBy, negatedBy};
 
 const PI: f64 = 3.141592653589793;
+
+// Where A(t) breaks: about the tangent of an eighth of PI.
+const BREAK: f64 = 0.41421356;
+
+// The sines of one, two and three eighths of PI, roughly.
+const SIN_22: f64 = 0.38268343;
+
+const SIN_45: f64 = 0.70710678;
+
+const SIN_67: f64 = 0.92387953;
 
 // The bits of PI, 1.0 and minus zero.
 const PI_BITS: u64 = 0x4009_21fb_5444_2d18;
@@ -50,14 +61,21 @@ fn atan_poly(u: f64) -> f64
     u * h
 }
 
+// A(t), for a t above the break.
+fn atan_far(t: f64) -> f64
+    ensures { λ r. ⌜ r ≡ pi ⊘ num 4 ⊕ atanPoly ((t ⊖ num 1) ⊘ (t ⊕ num 1)) ⌝ }
+{
+    PI / 4.0 + atan_poly((t - 1.0) / (t + 1.0))
+}
+
 // A(t)
 fn atan_unit(t: f64) -> f64
     ensures { λ r. ⌜ r ≡ atanUnit t ⌝ }
 {
-    if t <= 0.41421356 {
+    if t <= BREAK {
         return atan_poly(t);
     }
-    PI / 4.0 + atan_poly((t - 1.0) / (t + 1.0))
+    atan_far(t)
 }
 
 // From the magnitudes of y and x.
@@ -108,8 +126,47 @@ pub fn atan2(y: f64, x: f64) -> f64
     )
 }
 
+// As `atan_base`, for the root b of 1 - a²: a alone tells which way it goes, and is there long before b. The jumps are made by a, and the tests of b only confirm them.
+fn atan_told(a: f64, b: f64) -> f64
+    ensures { λ r. ⌜ r ≡ atanBase a b ⌝ }
+{
+    if a < SIN_45 {
+        if a < b {
+            let t = a / b;
+            if a < SIN_22 {
+                if t <= BREAK {
+                    return atan_poly(t);
+                }
+            } else {
+                if t <= BREAK {} else {
+                    return atan_far(t);
+                }
+            }
+        }
+    } else {
+        if a <= b {} else {
+            let t = b / a;
+            if a < SIN_67 {
+                if t <= BREAK {} else {
+                    return PI / 2.0 - atan_far(t);
+                }
+            } else {
+                if t <= BREAK {
+                    return PI / 2.0 - atan_poly(t);
+                }
+            }
+        }
+    }
+    atan_base(a, b)
+}
+
 pub fn asin(x: f64) -> f64
     ensures { λ r. ⌜ r ≡ Arctangent.asin x ⌝ }
 {
-    atan2(x, sqrt((1.0 - x) * (1.0 + x)))
+    let m = (1.0 - x) * (1.0 + x);
+    let r = sqrt(m);
+    if m > 0.0 {
+        return negated_by(sign_bit(x), atan_told(abs(x), r));
+    }
+    atan2(x, r)
 }

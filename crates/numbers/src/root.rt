@@ -1,22 +1,34 @@
-// The square root, from whole numbers: the bits of x are w * 4^g with a w of 53 or 54 digits, and the root of w * 2^52 is found with its rest, which says how it rounds.
+// The square root: a number is guessed by steps on doubles and tested in whole numbers; where the test fails, the digits are found one by one.
+// The bits of x are w * 4^g with a w of 53 or 54 digits, and the root of w * 2^52 is the digits of the root of x.
 ghost use mathlib.Core.Path.{_≡_};
+ghost use mathlib.Core.Bool.{true};
 ghost use Prim.Native.Nat.{_+_, _*_, _<_, _≤_, _^_};
+ghost use lib.Ieee.{binary64, ofBits};
 ghost use Rattle.numbers.specs.Root as Root;
-ghost use Rattle.numbers.specs.RootSteps.{Squared, Lifted, unitsOf, RootOf};
+ghost use Rattle.numbers.specs.RootSteps.{Squared, Rounds, Lifted, unitsOf, RootOf};
 
 // A pattern's exponent counts in steps of 2^52.
 const TWO_52: u64 = 0x10_0000_0000_0000;
 
 const TWO_53: u64 = 0x20_0000_0000_0000;
 
-// The bits of 0.5, 1.0, minus zero and infinity.
+// The bits of 0.5, minus zero and infinity.
 const HALF_BITS: u64 = 0x3fe0_0000_0000_0000;
-
-const ONE_BITS: u64 = 0x3ff0_0000_0000_0000;
 
 const MINUS_ZERO_BITS: u64 = 0x8000_0000_0000_0000;
 
 const INFINITY_BITS: u64 = 0x7ff0_0000_0000_0000;
+
+// With half of a number's digits, and of its exponent's last bit: the bits of nearly half its root.
+const GUESS_BITS: u64 = 0x3fd7_6d0a_40d7_8ae2;
+
+// The bits of 2^-511 and 2^511: with half the exponent's field added or taken off, what brings the root of f back to that of the number, and its inverse.
+const UP_BITS: u64 = 0x2000_0000_0000_0000;
+
+const DOWN_BITS: u64 = 0x5fe0_0000_0000_0000;
+
+// 3 * 2^26: added and taken off again, it leaves of a number in [0.5, 2) the multiple of 2^-25 nearest to it.
+const CUT: f64 = 201326592.0;
 
 // w * 2^52 as a square and a rest.
 struct Rooted {
@@ -53,72 +65,6 @@ fn by_digits(w: u64) -> Rooted
     Rooted { root, rest }
 }
 
-// The bits of w / 2^52, in [1, 4), cut to 53 digits.
-fn spread(w: u64) -> u64
-    requires { ⌜ w < 2 ^ 54 ⌝ }
-    ensures { λ r. ⌜ r ≤ 0x4030_0000_0000_0000 ⌝ }
-{
-    if w < TWO_53 {
-        w + HALF_BITS
-    } else {
-        w / 2 + ONE_BITS
-    }
-}
-
-// The root of w * 2^52, cut to a whole number, or one less, by Newton's steps on 1 / √ in doubles: the digits of s in [1, 2], less one. Nothing hangs on it: `square` tests it.
-fn near(w: u64) -> u64
-    requires { ⌜ w < 2 ^ 54 ⌝ }
-    ensures { λ r. ⌜ r < 2 ^ 53 ⌝ }
-{
-    let bits = spread(w);
-    let f = f64::from_bits(bits);
-    let y = f64::from_bits(0x5fe6_eb50_c7b5_37a9 - bits / 2);
-    let g = 0.5 * f;
-    let y = y * (1.5 - g * (y * y));
-    let y = y * (1.5 - g * (y * y));
-    let y = y * (1.5 - g * (y * y));
-    let s = f * y;
-    let s = s + (f - s * s) * (0.5 * y);
-    if s != s {
-        return 0;
-    }
-    (f64::to_bits(s) % TWO_53 + (TWO_53 - 1)) % TWO_53
-}
-
-// The root of w * 2^52: that of `near`, or one more where the rest says so. The square is exact, of two halves a * 2^27 + b; where the test fails, `by_digits` answers.
-fn square(w: u64) -> Rooted
-    requires { ⌜ w < 2 ^ 54 ⌝ }
-    ensures { λ r. ⌜ Squared w (r .root) (r .rest) ⌝ }
-{
-    let r = near(w);
-    let a = r / 0x800_0000;
-    let b = r % 0x800_0000;
-    let m = a * b;
-    let high = 4 * (a * a) + m / 0x100_0000;
-    let low = m % 0x100_0000 * 0x1000_0000 + b * b;
-    if high > w {
-        return by_digits(w);
-    }
-    let d = w - high;
-    if d > 1000 {
-        return by_digits(w);
-    }
-    let over = d * TWO_52;
-    if low > over {
-        return by_digits(w);
-    }
-    let mut rest = over - low;
-    let mut root = r;
-    if rest > 2 * r {
-        rest = rest - 2 * r - 1;
-        root = r + 1;
-    }
-    if rest > 2 * root {
-        return by_digits(w);
-    }
-    Rooted { root, rest }
-}
-
 // v * 4^g, with v lifted by fours to 53 or 54 digits.
 fn lifted(v: u64, g: u64) -> Fours
     requires { ⌜ (0 < v) × (v < 2 ^ 54) × (27 ≤ g) ⌝ }
@@ -133,20 +79,28 @@ fn lifted(v: u64, g: u64) -> Fours
     Fours { w, g: h }
 }
 
-// The value of the bits b, in units of 2^-1074 and times 2^1022.
-fn scaled(b: u64) -> Fours
-    requires { ⌜ (0 < b) × (b < 0x7ff0_0000_0000_0000) ⌝ }
+// The number that the bits b of a normal number stand for, in units of 2^-1074 and times 2^1022.
+fn normal(b: u64) -> Fours
+    requires { ⌜ (2 ^ 52 ≤ b) × (b < 0x7ff0_0000_0000_0000) ⌝ }
     ensures { λ r. ⌜ Lifted (unitsOf b * 2 ^ 1022) 1534 (r .w) (r .g) ⌝ }
 {
     let t = b % TWO_52;
     let q = b / TWO_52;
-    if q == 0 {
-        return lifted(t, 511);
-    }
     Fours {
         w: (TWO_52 + t) * (2 - q % 2),
         g: 510 + (q + 1) / 2,
     }
+}
+
+// The same for the bits of any positive number.
+fn scaled(b: u64) -> Fours
+    requires { ⌜ (0 < b) × (b < 0x7ff0_0000_0000_0000) ⌝ }
+    ensures { λ r. ⌜ Lifted (unitsOf b * 2 ^ 1022) 1534 (r .w) (r .g) ⌝ }
+{
+    if b < TWO_52 {
+        return lifted(b, 511);
+    }
+    normal(b)
 }
 
 // The bits of the root of a positive number's bits: up one where the rest passes the root. Rounding up carries into the exponent by itself.
@@ -155,7 +109,7 @@ fn root_bits(b: u64) -> u64
     ensures { λ r. ⌜ RootOf b r ⌝ }
 {
     let s = scaled(b);
-    let r = square(s.w);
+    let r = by_digits(s.w);
     if r.root < r.rest {
         s.g * TWO_52 + r.root + 1
     } else {
@@ -163,7 +117,8 @@ fn root_bits(b: u64) -> u64
     }
 }
 
-pub fn sqrt(x: f64) -> f64
+// The root of any double, by digits.
+fn plain(x: f64) -> f64
     ensures { λ r. ⌜ r ≡ Root.sqrt x ⌝ }
 {
     if x != x {
@@ -183,4 +138,97 @@ pub fn sqrt(x: f64) -> f64
         return x;
     }
     f64::from_bits(root_bits(b))
+}
+
+// What is nearly always the root of the normal number with the bits b. Nothing hangs on it: `is_root` tests it.
+// f in [0.5, 2) is that number by a power of four. The first s is off from √f / 2 by 3.5 in a hundred at most, and the next, by one step of the sixth order, from √f by about 2^-34. h is its upper 26 digits, so h * h and f - h * h are exact.
+fn near(b: u64) -> f64
+    requires { ⌜ b < 0x7ff0_0000_0000_0000 ⌝ }
+{
+    let low = b % TWO_53;
+    let f = f64::from_bits(low + HALF_BITS);
+    let s = f64::from_bits(low / 2 + GUESS_BITS);
+    let t = s * s;
+    let p = 0.25 * f + t;
+    let q = p * p;
+    let s = p * (q + 3.0 * f * t) / (3.0 * s * q + s * f * t);
+    let h = s + CUT - CUT;
+    let half = b / TWO_53 * TWO_52;
+    let up = f64::from_bits(half + UP_BITS);
+    let down = f64::from_bits(DOWN_BITS - half);
+    h * up + (f - h * h) / ((h + s) * down)
+}
+
+// Whether r is the root of w * 2^52 to the nearest whole number, that is, whether w * 2^52 is above r * r - r and at most r * r + r.
+// The square is exact, of two halves a * 2^26 + b; 2^53 is added to what is left of w * 2^52, so that nothing falls below 0.
+fn rounds(w: u64, r: u64) -> bool
+    requires { ⌜ (w < 2 ^ 54) × (r < 2 ^ 53) ⌝ }
+    ensures { λ t. ⌜ (t ≡ true → Rounds w r) ⌝ }
+{
+    let a = r / 0x400_0000;
+    let b = r % 0x400_0000;
+    let top = w + 2;
+    let square = a * a;
+    if square > top {
+        return false;
+    }
+    let d = top - square;
+    if d > 0x4000_0000 {
+        return false;
+    }
+    let over = d * 0x200_0000;
+    let cross = a * b;
+    if cross > over {
+        return false;
+    }
+    let e = over - cross;
+    if e > 0x4000_0000 {
+        return false;
+    }
+    let left = e * 0x800_0000;
+    let most = b * b + (r + TWO_53);
+    if left > most {
+        return false;
+    }
+    most - left < 2 * r
+}
+
+// Whether s is the root of the normal number with the bits b.
+fn is_root(b: u64, s: f64) -> bool
+    requires { ⌜ (2 ^ 52 ≤ b) × (b < 0x7ff0_0000_0000_0000) ⌝ }
+    ensures { λ t. ⌜ (t ≡ true → s ≡ Root.sqrt (ofBits binary64 b)) ⌝ }
+{
+    if s != s {
+        return false;
+    }
+    let digits = f64::to_bits(s);
+    let n = normal(b);
+    let low = n.g * TWO_52;
+    if digits < low {
+        return false;
+    }
+    let r = digits - low;
+    if r >= TWO_53 {
+        return false;
+    }
+    rounds(n.w, r)
+}
+
+// The root by `near` where the test confirms it. The answer does not wait for the test: only the jump does.
+pub fn sqrt(x: f64) -> f64
+    ensures { λ r. ⌜ r ≡ Root.sqrt x ⌝ }
+{
+    if x != x {
+        return plain(x);
+    }
+    let b = f64::to_bits(x);
+    if b >= TWO_52 {
+        if b < INFINITY_BITS {
+            let s = near(b);
+            if is_root(b, s) {
+                return s;
+            }
+        }
+    }
+    plain(x)
 }

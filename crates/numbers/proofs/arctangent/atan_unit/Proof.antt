@@ -13,12 +13,12 @@ returns : tie.Need-returns
 unfolding atanUnit decimal ofBits
 returns c = simp (c .atan-poly .ensures, c .before .if1 .taken)
 
-atan-poly-requires-2 : tie.Need-atan-poly-requires-2
-atan-poly-requires-2 c κs = search needs
+atan-far-requires : tie.Need-atan-far-requires
+atan-far-requires c κs = search needs
 
 returns-2 : tie.Need-returns-2
 unfolding atanUnit decimal ofBits
-returns-2 c = simp (c .atan-poly2 .ensures, c .before .if1 .left)
+returns-2 c = simp (c .atan-far .ensures, c .before .if1 .left)
 
 pub atan-unit-spec : {M : Type 1} → statement M
-atan-unit-spec = tie.close (tie.spec atan-poly-requires returns atan-poly-requires-2 returns-2)
+atan-unit-spec = tie.close (tie.spec atan-poly-requires returns atan-far-requires returns-2)

@@ -11,8 +11,8 @@ use Rattle.numbers.proofs.root.root_bits.Tie as tie
 scaled-requires : tie.Need-scaled-requires
 scaled-requires c κs = search needs
 
-square-requires : tie.Need-square-requires
-square-requires c κs = search needs
+by-digits-requires : tie.Need-by-digits-requires
+by-digits-requires c κs = search needs
 
 mul-result : tie.Need-mul-result
 mul-result c = search needs
@@ -36,7 +36,7 @@ returns : tie.Need-returns
 returns c =
     let b = c .before .before .before .before .before .before in
     let s = c .before .before .before .before .before .scaled in
-    let r = c .before .before .before .before .square in
+    let r = c .before .before .before .before .by-digits in
     subst (RootOf (b .args .b)) (over (s .result .g) (r .result .root))
     (rounded-up (b .args .b) (s .result .w) (s .result .g) (r .result .root) (r .result .rest) (b .pre .0) (b .pre .1) (s .ensures) (r .ensures) (omega arith))
 
@@ -44,8 +44,8 @@ returns-2 : tie.Need-returns-2
 returns-2 c =
     let b = c .before .before .before .before .before .before in
     let s = c .before .before .before .before .before .scaled in
-    let r = c .before .before .before .before .square in
+    let r = c .before .before .before .before .by-digits in
     rounded-down (b .args .b) (s .result .w) (s .result .g) (r .result .root) (r .result .rest) (b .pre .0) (b .pre .1) (s .ensures) (r .ensures) (omega arith)
 
 pub root-bits-spec : {M : Type 1} → statement M
-root-bits-spec = tie.close (tie.spec scaled-requires square-requires mul-result add-result add-result-2 mul-result-2 add-result-3 returns returns-2)
+root-bits-spec = tie.close (tie.spec scaled-requires by-digits-requires mul-result add-result add-result-2 mul-result-2 add-result-3 returns returns-2)
