@@ -1,4 +1,8 @@
 // Operations on numbers alone.
+use crate::angles::angles;
+use crate::words::double_at;
+use crate::words::number;
+use crate::words::truth;
 use numbers::arctangent::asin;
 use numbers::arctangent::atan2;
 use numbers::float;
@@ -8,28 +12,43 @@ use numbers::powers::powf_three_halves;
 use numbers::root::sqrt;
 use numbers::sine::cos;
 use numbers::sine::sin;
+ghost use mathlib.Core.Path.{_≡_};
+ghost use Rattle.probe.specs.Words.{padded};
+ghost use Rattle.probe.specs.Rows.{answered};
+ghost use Rattle.probe.specs.Table.{table, decimalOf};
 
-// Operations 0 to 11.
-pub fn float_of(op: u64, x: f64, y: f64) -> f64 {
+// Operations 0 to 16, and all that follow.
+pub fn floats(op: u64, a: [u64; 32]) -> [u64; 24]
+    ensures { λ r. ⌜ r ≡ padded (answered table op a) ⌝ }
+{
+    let x = double_at(a, 0);
+    let y = double_at(a, 1);
     match op {
-        0 => sqrt(x),
-        1 => sin(x),
-        2 => cos(x),
-        3 => atan2(x, y),
-        4 => asin(x),
-        5 => powf_third(x),
-        6 => powf_three_halves(x),
-        7 => float::to_radians(x),
-        8 => float::to_degrees(x),
-        9 => float::abs(x),
-        10 => float::clamp_unit(x),
-        11 => float::rem(x, y),
-        _ => 0.0,
+        0 => number(sqrt(x)),
+        1 => number(sin(x)),
+        2 => number(cos(x)),
+        3 => number(atan2(x, y)),
+        4 => number(asin(x)),
+        5 => number(powf_third(x)),
+        6 => number(powf_three_halves(x)),
+        7 => number(float::to_radians(x)),
+        8 => number(float::to_degrees(x)),
+        9 => number(float::abs(x)),
+        10 => number(float::clamp_unit(x)),
+        11 => number(float::rem(x, y)),
+        12 => number(decimal_of(a[0], a[1], a[2])),
+        13 => truth(compare::eq_zero(x)),
+        14 => truth(compare::eq(x, y)),
+        15 => truth(compare::lte(x, y)),
+        16 => truth(compare::gte(x, y)),
+        _ => angles(op, a),
     }
 }
 
-// Operation 12, on whole numbers. 0 where `decimal` does not take them.
-pub fn decimal_of(negative: u64, digits: u64, tens: u64) -> f64 {
+// On whole numbers. 0 where `decimal` does not take them.
+fn decimal_of(negative: u64, digits: u64, tens: u64) -> f64
+    ensures { λ r. ⌜ r ≡ decimalOf negative digits tens ⌝ }
+{
     if digits > 0x20_0000_0000_0000 {
         return 0.0;
     }
@@ -40,15 +59,4 @@ pub fn decimal_of(negative: u64, digits: u64, tens: u64) -> f64 {
         return 0.0;
     }
     float::decimal(negative == 1, digits, tens)
-}
-
-// Operations 13 to 16.
-pub fn test_of(op: u64, x: f64, y: f64) -> bool {
-    match op {
-        13 => compare::eq_zero(x),
-        14 => compare::eq(x, y),
-        15 => compare::lte(x, y),
-        16 => compare::gte(x, y),
-        _ => false,
-    }
 }

@@ -1,28 +1,34 @@
 // Every operation of `numbers` under a number, for the comparison with the Rust and for replaying its recorded answers.
-// Inputs and outputs are bits. What the operations call is proved; the functions here only hand over.
+// Inputs and outputs are bits. The table of the operations is specs/Table.antt.
 pub mod angles;
 pub mod floats;
 pub mod matrices;
+pub mod parts;
 pub mod table;
 pub mod vectors;
 pub mod words;
 
-pub use table::apply;
+pub use floats::floats as apply;
 pub use table::inputs_of;
 pub use table::outputs_of;
 pub use words::bits;
 pub use words::double;
 ghost use mathlib.Core.Path.{_≡_};
+ghost use Rattle.probe.specs.Words.{padded};
+ghost use Rattle.probe.specs.Rows.{answered};
+ghost use Rattle.probe.specs.Table.{table};
 ghost use Rattle.numbers.specs.Root as Root;
 ghost use Rattle.numbers.specs.Sine as Sine;
 ghost use Rattle.numbers.specs.Arctangent as Arctangent;
 
 // The functions for C.
 
-// `table::apply`: the words of an operation's answer, then zeros.
+// The words of an operation's answer, then zeros. All zeros where there is no such operation.
 #[no_mangle]
-pub extern "C" fn numbers_apply(op: u64, inputs: &[u64; 32], outputs: &mut [u64; 24]) {
-    *outputs = table::apply(op, *inputs);
+pub extern "C" fn numbers_apply(op: u64, inputs: &[u64; 32], outputs: &mut [u64; 24])
+    ensures { λ _. ⌜ now (outputs .exit) ≡ padded (answered table op (now (inputs .entry))) ⌝ }
+{
+    *outputs = floats::floats(op, *inputs);
 }
 
 #[no_mangle]

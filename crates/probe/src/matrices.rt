@@ -1,52 +1,58 @@
-// Operations on matrices.
-use crate::vectors::vector;
-use crate::vectors::with_vector;
+// Operations on matrices, and the constants.
+use crate::parts::parts;
+use crate::words::bits;
+use crate::words::matrix;
+use crate::words::matrix_at;
+use crate::words::truth;
+use crate::words::vector;
+use crate::words::vector_at;
+use crate::words::with_vector;
+use numbers::angle::Angle;
 use numbers::mat33::Mat33;
-ghost use Prim.Native.Nat.{_≤_};
+use numbers::vec3::Vec3;
+ghost use mathlib.Core.Path.{_≡_};
+ghost use Rattle.probe.specs.Words.{padded};
+ghost use Rattle.probe.specs.Rows.{answered};
+ghost use Rattle.probe.specs.Table.{matrixRows, angleConstants, vectorConstants};
 
-// The matrix of nine words from a place on, by rows, as they stand.
-pub fn matrix(a: [u64; 32], at: usize) -> Mat33
-    requires { ⌜ at ≤ 23 ⌝ }
+// Operations 45 to 51, and all that follow.
+pub fn matrices(op: u64, a: [u64; 32]) -> [u64; 24]
+    ensures { λ r. ⌜ r ≡ padded (answered matrixRows op a) ⌝ }
 {
-    Mat33 {
-        r0: vector(a, at),
-        r1: vector(a, at + 3),
-        r2: vector(a, at + 6),
-    }
-}
-
-// An answer of a matrix, by rows.
-pub fn nine(m: Mat33) -> [u64; 24] {
-    let r0 = m.r0;
-    let r1 = m.r1;
-    let r2 = m.r2;
-    let out = with_vector([0u64; 24], 0, r0);
-    let out = with_vector(out, 3, r1);
-    with_vector(out, 6, r2)
-}
-
-// Operations 45, 46, 51, 53 and 54, those that answer a matrix.
-pub fn matrix_of(op: u64, m: Mat33, n: Mat33) -> Mat33 {
     match op {
-        45 => m.transpose(),
-        46 => m.mul(n),
-        51 => Mat33::IDENTITY,
-        53 => rows(m),
-        54 => made(m),
-        _ => Mat33::IDENTITY,
+        45 => matrix(matrix_at(a, 0).transpose()),
+        46 => matrix(matrix_at(a, 0).mul(matrix_at(a, 9))),
+        47 => truth(matrix_at(a, 0).eq(matrix_at(a, 9))),
+        48 => vector(vector_at(a, 0).mul_mat33(matrix_at(a, 3))),
+        49 => angle_constants(),
+        50 => vector_constants(),
+        51 => matrix(Mat33::IDENTITY),
+        _ => parts(op, a),
     }
 }
 
-fn rows(m: Mat33) -> Mat33 {
-    let r0 = m.row0();
-    let r1 = m.row1();
-    let r2 = m.row2();
-    Mat33 { r0, r1, r2 }
+fn angle_constants() -> [u64; 24]
+    ensures { λ r. ⌜ r ≡ padded angleConstants ⌝ }
+{
+    let mut out = [0u64; 24];
+    out[0] = bits(Angle::ZERO.0);
+    out[1] = bits(Angle::QUARTER_CIRCLE.0);
+    out[2] = bits(Angle::NEG_QUARTER_CIRCLE.0);
+    out[3] = bits(Angle::HALF_CIRCLE.0);
+    out[4] = bits(Angle::NEG_HALF_CIRCLE.0);
+    out[5] = bits(Angle::FULL_CIRCLE.0);
+    out[6] = bits(Angle::DBL_EPSILON.0);
+    out
 }
 
-fn made(m: Mat33) -> Mat33 {
-    let r0 = m.r0;
-    let r1 = m.r1;
-    let r2 = m.r2;
-    Mat33::new(r0, r1, r2)
+fn vector_constants() -> [u64; 24]
+    ensures { λ r. ⌜ r ≡ padded vectorConstants ⌝ }
+{
+    let out = with_vector([0u64; 24], 0, Vec3::UNIT_X);
+    let out = with_vector(out, 3, Vec3::UNIT_Y);
+    let out = with_vector(out, 6, Vec3::UNIT_Z);
+    let out = with_vector(out, 9, Vec3::NEG_UNIT_X);
+    let out = with_vector(out, 12, Vec3::NEG_UNIT_Y);
+    let out = with_vector(out, 15, Vec3::NEG_UNIT_Z);
+    with_vector(out, 18, Vec3::ZERO)
 }

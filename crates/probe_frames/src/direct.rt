@@ -11,10 +11,17 @@ use numbers::mat33::Mat33;
 use numbers::vec3::Vec3;
 ghost use Prim.Native.Nat.{_≤_};
 ghost use mathlib.Core.Path.{_≡_};
+ghost use Rattle.frames.specs.Positions.{geocentricFromMetres};
+ghost use Rattle.frames.specs.Ellipsoids.{geodeticToGeocentric, geocentricToGeodetic};
 ghost use Rattle.frames.specs.Vectors as Vectors;
+ghost use Rattle.frames.specs.Frames.{enuFromGeodetic, localVectorTo};
+ghost use Rattle.probe_frames.specs.Direct as Direct;
+ghost use Rattle.probe_frames.specs.Direct.{ellipsoidOf, geodeticOf};
 ghost use Rattle.frames.specs.declared.orientation.Orientation.the-variants.{Enu, Ned};
 
-fn ellipsoid(a: f64, b: f64, e: f64, f: f64) -> Ellipsoid {
+fn ellipsoid(a: f64, b: f64, e: f64, f: f64) -> Ellipsoid
+    ensures { λ r. ⌜ r ≡ ellipsoidOf a b e f ⌝ }
+{
     Ellipsoid {
         equatorial_radius: Length(a),
         polar_radius: Length(b),
@@ -23,7 +30,9 @@ fn ellipsoid(a: f64, b: f64, e: f64, f: f64) -> Ellipsoid {
     }
 }
 
-fn geodetic(x: f64, y: f64, z: f64, height: f64) -> GeodeticPosition {
+fn geodetic(x: f64, y: f64, z: f64, height: f64) -> GeodeticPosition
+    ensures { λ r. ⌜ r ≡ geodeticOf x y z height ⌝ }
+{
     GeodeticPosition {
         hp: NVector(Vec3 { x, y, z }),
         height: Length(height),
@@ -42,7 +51,9 @@ pub extern "C" fn frames_to_geocentric(
     z: f64,
     height: f64,
     out: &mut [f64; 3],
-) {
+)
+    ensures { λ _. ⌜ now (out .exit) ≡ Direct.coordinates (geodeticToGeocentric (ellipsoidOf a b e f) (geodeticOf x y z height)) ⌝ }
+{
     let p = ellipsoid(a, b, e, f).geodetic_to_geocentric_position(geodetic(x, y, z, height));
     *out = [p.x.0, p.y.0, p.z.0];
 }
@@ -58,7 +69,9 @@ pub extern "C" fn frames_to_geodetic(
     y: f64,
     z: f64,
     out: &mut [f64; 4],
-) {
+)
+    ensures { λ _. ⌜ now (out .exit) ≡ Direct.nvectorAndHeight (geocentricToGeodetic (ellipsoidOf a b e f) (geocentricFromMetres x y z)) ⌝ }
+{
     let g = GeocentricPosition::from_metres(x, y, z);
     let p = ellipsoid(a, b, e, f).geocentric_to_geodetic_position(g);
     let v = p.hp.0;
@@ -77,12 +90,16 @@ pub extern "C" fn frames_enu(
     z: f64,
     height: f64,
     out: &mut [f64; 21],
-) {
+)
+    ensures { λ _. ⌜ now (out .exit) ≡ Direct.entries (enuFromGeodetic (geodeticOf x y z height) (ellipsoidOf a b e f)) ⌝ }
+{
     let l = ellipsoid(a, b, e, f);
     *out = entries(LocalFrame::enu_from_geodetic(geodetic(x, y, z, height), l));
 }
 
-fn entries(f: LocalFrame) -> [f64; 21] {
+fn entries(f: LocalFrame) -> [f64; 21]
+    ensures { λ r. ⌜ r ≡ Direct.entries f ⌝ }
+{
     let o = f.origin;
     let d = f.dir_rm;
     let i = f.inv_rm;
@@ -113,12 +130,16 @@ fn entries(f: LocalFrame) -> [f64; 21] {
 
 // An east-north-up frame's origin, direction and inverse matrix, then the target's coordinates.
 #[no_mangle]
-pub extern "C" fn frames_vector_to(f: &[f64; 21], x: f64, y: f64, z: f64, out: &mut [f64; 3]) {
+pub extern "C" fn frames_vector_to(f: &[f64; 21], x: f64, y: f64, z: f64, out: &mut [f64; 3])
+    ensures { λ _. ⌜ now (out .exit) ≡ Direct.components (localVectorTo (Direct.frameOf (now (f .entry))) (geocentricFromMetres x y z)) ⌝ }
+{
     let v = frame(*f).local_vector_to(GeocentricPosition::from_metres(x, y, z));
     *out = [v.x.0, v.y.0, v.z.0];
 }
 
-fn frame(f: [f64; 21]) -> LocalFrame {
+fn frame(f: [f64; 21]) -> LocalFrame
+    ensures { λ r. ⌜ r ≡ Direct.frameOf f ⌝ }
+{
     LocalFrame {
         origin: three(f, 0),
         dir_rm: nine(f, 3),
@@ -129,6 +150,7 @@ fn frame(f: [f64; 21]) -> LocalFrame {
 
 fn three(f: [f64; 21], at: usize) -> Vec3
     requires { ⌜ at ≤ 18 ⌝ }
+    ensures { λ r. ⌜ r ≡ Direct.vectorFrom f at ⌝ }
 {
     Vec3 {
         x: f[at],
@@ -139,6 +161,7 @@ fn three(f: [f64; 21], at: usize) -> Vec3
 
 fn nine(f: [f64; 21], at: usize) -> Mat33
     requires { ⌜ at ≤ 12 ⌝ }
+    ensures { λ r. ⌜ r ≡ Direct.matrixFrom f at ⌝ }
 {
     Mat33 {
         r0: three(f, at),

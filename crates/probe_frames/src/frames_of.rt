@@ -7,90 +7,106 @@ use crate::inputs::geodetic;
 use crate::inputs::local_frame;
 use crate::inputs::local_vector;
 use frames::frame::LocalFrame;
-use probe::matrices::nine;
-use probe::words::one;
+use probe::words::matrix;
+ghost use mathlib.Core.Path.{_≡_};
+ghost use Rattle.frames.specs.Frames as Frames;
+ghost use Rattle.probe.specs.Words.{padded};
+ghost use Rattle.probe.specs.Rows.{answered};
+ghost use Rattle.probe_frames.specs.Values.{angleAt, geocentricAt, geodeticAt, ellipsoidAt, localAt, frameAt};
+ghost use Rattle.probe_frames.specs.Table.{levelRows, turnedRows, ledRows};
 
-// Operations 37 to 40.
-pub fn level_of(op: u64, a: [u64; 32]) -> LocalFrame {
+// Operations 37 to 40, and all that follow.
+pub fn levels(op: u64, a: [u64; 32]) -> [u64; 24]
+    ensures { λ r. ⌜ r ≡ padded (answered levelRows op a) ⌝ }
+{
     match op {
-        37 => LocalFrame::enu_from_geocentric(geocentric(a, 4), ellipsoid(a)),
-        38 => LocalFrame::enu_from_geodetic(geodetic(a, 4), ellipsoid(a)),
-        39 => LocalFrame::ned_from_geocentric(geocentric(a, 4), ellipsoid(a)),
-        _ => LocalFrame::ned_from_geodetic(geodetic(a, 4), ellipsoid(a)),
+        37 => answers::local_frame(LocalFrame::enu_from_geocentric(geocentric(a, 4), ellipsoid(a))),
+        38 => answers::local_frame(LocalFrame::enu_from_geodetic(geodetic(a, 4), ellipsoid(a))),
+        39 => answers::local_frame(LocalFrame::ned_from_geocentric(geocentric(a, 4), ellipsoid(a))),
+        40 => answers::local_frame(LocalFrame::ned_from_geodetic(geodetic(a, 4), ellipsoid(a))),
+        _ => turned(op, a),
     }
 }
 
-// Operations 41 to 44.
-pub fn turned_of(op: u64, a: [u64; 32]) -> LocalFrame {
+// Operations 41 to 46, and all that follow.
+fn turned(op: u64, a: [u64; 32]) -> [u64; 24]
+    ensures { λ r. ⌜ r ≡ padded (answered turnedRows op a) ⌝ }
+{
     match op {
-        41 => body_from_geocentric(a),
-        42 => body_from_geodetic(a),
-        43 => LocalFrame::wander_azimuth_from_geocentric(
+        41 => answers::local_frame(body_from_geocentric(a)),
+        42 => answers::local_frame(body_from_geodetic(a)),
+        43 => answers::local_frame(LocalFrame::wander_azimuth_from_geocentric(
             angle(a, 7),
             geocentric(a, 4),
             ellipsoid(a),
-        ),
-        _ => LocalFrame::wander_azimuth_from_geodetic(angle(a, 8), geodetic(a, 4), ellipsoid(a)),
+        )),
+        44 => answers::local_frame(LocalFrame::wander_azimuth_from_geodetic(
+            angle(a, 8),
+            geodetic(a, 4),
+            ellipsoid(a),
+        )),
+        45 => answers::local_frame(looking_at_geocentric(a)),
+        46 => answers::local_frame(looking_at_geodetic(a)),
+        _ => led(op, a),
     }
 }
 
-fn body_from_geocentric(a: [u64; 32]) -> LocalFrame {
+fn body_from_geocentric(a: [u64; 32]) -> LocalFrame
+    ensures { λ r. ⌜ r ≡ Frames.bodyFromGeocentric (angleAt a 7) (angleAt a 8) (angleAt a 9) (geocentricAt a 4) (ellipsoidAt a) ⌝ }
+{
     let yaw = angle(a, 7);
     let pitch = angle(a, 8);
     let roll = angle(a, 9);
     LocalFrame::body_from_geocentric(yaw, pitch, roll, geocentric(a, 4), ellipsoid(a))
 }
 
-fn body_from_geodetic(a: [u64; 32]) -> LocalFrame {
+fn body_from_geodetic(a: [u64; 32]) -> LocalFrame
+    ensures { λ r. ⌜ r ≡ Frames.bodyFromGeodetic (angleAt a 8) (angleAt a 9) (angleAt a 10) (geodeticAt a 4) (ellipsoidAt a) ⌝ }
+{
     let yaw = angle(a, 8);
     let pitch = angle(a, 9);
     let roll = angle(a, 10);
     LocalFrame::body_from_geodetic(yaw, pitch, roll, geodetic(a, 4), ellipsoid(a))
 }
 
-// Operation 45.
-pub fn looking_at_geocentric(a: [u64; 32]) -> LocalFrame {
+fn looking_at_geocentric(a: [u64; 32]) -> LocalFrame
+    ensures { λ r. ⌜ r ≡ Frames.lookingAtGeocentric (geocentricAt a 4) (geocentricAt a 7) (angleAt a 10) (ellipsoidAt a) ⌝ }
+{
     let origin = geocentric(a, 4);
     let target = geocentric(a, 7);
     LocalFrame::looking_at_geocentric(origin, target, angle(a, 10), ellipsoid(a))
 }
 
-// Operation 46.
-pub fn looking_at_geodetic(a: [u64; 32]) -> LocalFrame {
+fn looking_at_geodetic(a: [u64; 32]) -> LocalFrame
+    ensures { λ r. ⌜ r ≡ Frames.lookingAtGeodetic (geodeticAt a 4) (geodeticAt a 8) (angleAt a 12) (ellipsoidAt a) ⌝ }
+{
     let origin = geodetic(a, 4);
     let target = geodetic(a, 8);
     LocalFrame::looking_at_geodetic(origin, target, angle(a, 12), ellipsoid(a))
 }
 
-// Operation 47.
-pub fn rotated(a: [u64; 32]) -> LocalFrame {
-    local_frame(a).rotate_around_z(angle(a, 22))
-}
-
-// Operations 48 to 50.
-pub fn part_of(op: u64, a: [u64; 32]) -> [u64; 24] {
+// Operations 47 to 53. All zeros where there is no such operation.
+fn led(op: u64, a: [u64; 32]) -> [u64; 24]
+    ensures { λ r. ⌜ r ≡ padded (answered ledRows op a) ⌝ }
+{
     match op {
-        48 => nine(local_frame(a).local_to_earth_matrix()),
-        49 => nine(local_frame(a).earth_to_local_matrix()),
+        47 => answers::local_frame(local_frame(a).rotate_around_z(angle(a, 22))),
+        48 => matrix(local_frame(a).local_to_earth_matrix()),
+        49 => matrix(local_frame(a).earth_to_local_matrix()),
         50 => answers::geocentric(local_frame(a).origin()),
-        _ => one(0),
+        51 => answers::local_frame(transformed(a)),
+        52 => answers::local_vector(local_frame(a).local_vector_to(geocentric(a, 22))),
+        53 => answers::geocentric(local_frame(a).destination_position(local_vector(a, 22))),
+        _ => [0u64; 24],
     }
 }
 
-// Operation 51.
-pub fn transformed(a: [u64; 32]) -> LocalFrame {
+fn transformed(a: [u64; 32]) -> LocalFrame
+    ensures { λ r. ⌜ r ≡ Frames.transform (frameAt a) (localAt a 22) (angleAt a 25) (angleAt a 26) (angleAt a 27) ⌝ }
+{
     let offset = local_vector(a, 22);
     let yaw = angle(a, 25);
     let pitch = angle(a, 26);
     let roll = angle(a, 27);
     local_frame(a).transform(offset, yaw, pitch, roll)
-}
-
-// Operations 52 and 53.
-pub fn led_of(op: u64, a: [u64; 32]) -> [u64; 24] {
-    match op {
-        52 => answers::local_vector(local_frame(a).local_vector_to(geocentric(a, 22))),
-        53 => answers::geocentric(local_frame(a).destination_position(local_vector(a, 22))),
-        _ => one(0),
-    }
 }

@@ -1,20 +1,4 @@
-// The operations by their numbers.
-use crate::answers::local_frame;
-use crate::frames_of::led_of;
-use crate::frames_of::level_of;
-use crate::frames_of::looking_at_geocentric;
-use crate::frames_of::looking_at_geodetic;
-use crate::frames_of::part_of;
-use crate::frames_of::rotated;
-use crate::frames_of::transformed;
-use crate::frames_of::turned_of;
-use crate::positions_of::ellipsoid_of;
-use crate::positions_of::geocentric_of;
-use crate::positions_of::horizontal_of;
-use crate::vectors_of::combined_of;
-use crate::vectors_of::made_of;
-use crate::vectors_of::measured_of;
-use crate::vectors_of::rotation_of;
+// The operations by their numbers: how many words each takes and answers.
 ghost use Prim.Native.Nat.{_≤_};
 
 // How many words an operation takes. 0 where there is no such operation.
@@ -53,27 +37,5 @@ pub fn outputs_of(op: u64) -> usize
         32..=34 | 48 | 49 => 9,
         37..=47 | 51 => 22,
         _ => 0,
-    }
-}
-
-// The answer of an operation, its words first and zeros after them. All zeros where there is no such operation.
-pub fn apply(op: u64, a: [u64; 32]) -> [u64; 24] {
-    match op {
-        0..=3 => geocentric_of(op, a),
-        4..=9 => horizontal_of(op, a),
-        10..=16 => ellipsoid_of(op, a),
-        17..=22 => made_of(op, a),
-        23..=25 => measured_of(op, a),
-        26..=30 => combined_of(op, a),
-        31..=36 => rotation_of(op, a),
-        37..=40 => local_frame(level_of(op, a)),
-        41..=44 => local_frame(turned_of(op, a)),
-        45 => local_frame(looking_at_geocentric(a)),
-        46 => local_frame(looking_at_geodetic(a)),
-        47 => local_frame(rotated(a)),
-        48..=50 => part_of(op, a),
-        51 => local_frame(transformed(a)),
-        52 | 53 => led_of(op, a),
-        _ => [0u64; 24],
     }
 }
