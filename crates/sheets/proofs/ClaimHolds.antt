@@ -74,7 +74,7 @@ admits S c ds h =
 
 -- ---- an admitted sheet
 
-unstuck : (r : Ran) (o : Walked) (ds : List ℕ) → AgreeRan r o → o ≡ passes ds → Unstuck r
+pub unstuck : (r : Ran) (o : Walked) (ds : List ℕ) → AgreeRan r o → o ≡ passes ds → Unstuck r
 unstuck (done fs s) o ds p e = tt
 unstuck (stopped fs x i s) o ds p e = tt
 unstuck (stuck fs i s) o ds p e = let h = p .1 in let z : _≡_ {A = ℕ} 0 1 = cc in absurd (omega arith)

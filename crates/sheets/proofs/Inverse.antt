@@ -5,19 +5,17 @@ use native.Mathlib.Omega.{arith}
 use mathlib.Core.Path.{_≡_, refl, sym, ap, _∙_}
 use mathlib.Core.List.{List}
 use lib.ListN.{getD}
-use lib.Ieee.{Float}
 use Rattle.sheets.specs.Text.{Word}
-use Rattle.sheets.specs.Trees.{Num, Expr, Exprs, num-expr, form-expr, _▸_}
+use Rattle.sheets.specs.Trees.{Expr, Exprs, form-expr, _▸_}
+use Rattle.sheets.specs.Grammar.{IsWord}
 use Rattle.sheets.specs.Codes.{codeOf}
-use Rattle.sheets.specs.Reader.{Got, none, got, _then_, readWord, readNum, readArgs, orNum, readLeaf, readExpr}
-use Rattle.sheets.specs.Limits.{numValue}
-use Rattle.sheets.specs.Views.{place, coded, doubled}
+use Rattle.sheets.specs.Reader.{Got, none, got, _then_, readWord, readArgs, readExpr}
+use Rattle.sheets.specs.Views.{place, coded}
 use Rattle.sheets.specs.declared.bytes.WordRead.{WordRead}
-use Rattle.sheets.specs.declared.num.DoubleRead.{DoubleRead}
 use Rattle.sheets.specs.declared.expr.Read.{Read}
-use Rattle.sheets.proofs.ReaderLaws.{expr-leaf}
-use Rattle.sheets.proofs.Viewed.{coded-none, coded-got, doubled-none, doubled-got}
+use Rattle.sheets.proofs.Viewed.{coded-got}
 use Rattle.sheets.proofs.ExprSteps.{args-step, expr-step}
+use Rattle.sheets.proofs.Slices.{word-is}
 
 -- nothing is read where the reader answers Bad
 pub not-read {ℓ} : {A : Type 0} {C : Type ℓ} (o : Got A) (x : A) (n : ℕ) → Read.Bad ≡ place o → o ≡ got x n → C
@@ -40,7 +38,7 @@ arg-read x s at b eb left c l h es n r =
 
 -- a bracket; r is what the code read of its word
 pub form-read : (s : List ℕ) (at b : ℕ) → b ≡ getD s at 0 → (depth : ℕ) → b ≡ 40 → (depth ≡ 0 → ⊥) → (r : WordRead) → r ≡ coded (readWord s (at + 1)) → (k m : ℕ) → r ≡ WordRead.Is k m
-    → (e : Expr) (n : ℕ) → readExpr depth s at ≡ got e n → (w : Word) × (es : Exprs) × (k ≡ codeOf w) × (readArgs (readExpr (depth - 1) s) 5 s m ≡ got es n) × (e ≡ form-expr w es)
+    → (e : Expr) (n : ℕ) → readExpr depth s at ≡ got e n → (w : Word) × (es : Exprs) × IsWord w × (k ≡ codeOf w) × (readArgs (readExpr (depth - 1) s) 5 s m ≡ got es n) × (e ≡ form-expr w es)
 form-read s at b eb depth h d r er k m hr e n g =
     let (w, ew, ek) = coded-got (readWord s (at + 1)) r er k m hr in
     let (v, i, ev, g') = then-read (readWord s (at + 1)) (λ w n. readArgs (readExpr (depth - 1) s) 5 s n then (λ xs m. got (form-expr w xs) m)) e n (sym (expr-step s at b eb depth h d) ∙ g) in
@@ -48,18 +46,4 @@ form-read s at b eb depth h d r er k m hr e n g =
     let im : i ≡ m = cc in
     let iv : v ≡ w = cc in
     let ij : j ≡ n = cc in
-    (w, es, ek, ap (readArgs (readExpr (depth - 1) s) 5 s) (sym im) ∙ ea ∙ ap (got es) ij, cc)
-
--- a leaf that is no word; r is what the code read of a word, v what it read of a number
-module _ (s : List ℕ) (at b : ℕ) (eb : b ≡ getD s at 0) (depth : ℕ) (e : b ≡ 40 → ⊥) (r : WordRead) (er : r ≡ coded (readWord s at)) (h : r ≡ WordRead.Not) (v : DoubleRead) (ev : v ≡ doubled (readNum s at)) where
-  leaf-is : readExpr depth s at ≡ readNum s at then (λ x n. got (num-expr x) n)
-  unfolding readLeaf orNum
-  leaf-is = expr-leaf s at b eb depth e ∙ ap (λ o. orNum o (readNum s at)) (coded-none (readWord s at) r er h)
-
-  pub double-read : (x : Float) (n : ℕ) → v ≡ DoubleRead.Is x n → (q : Num) × (readExpr depth s at ≡ got (num-expr q) n) × (x ≡ numValue q)
-  unfolding _then_
-  double-read x n i = let (q, eq, ex) = doubled-got (readNum s at) v ev x n i in (q, leaf-is ∙ ap (λ o. o then (λ x n. got (num-expr x) n)) eq, ex)
-
-  pub no-leaf : v ≡ DoubleRead.Not → readExpr depth s at ≡ none
-  unfolding _then_
-  no-leaf i = leaf-is ∙ ap (λ o. o then (λ x n. got (num-expr x) n)) (doubled-none (readNum s at) v ev i)
+    (w, es, word-is s (at + 1) w m ew, ek, ap (readArgs (readExpr (depth - 1) s) 5 s) (sym im) ∙ ea ∙ ap (got es) ij, cc)

@@ -73,13 +73,6 @@ leaf-word s at depth w n e = go depth (holds-at (ExprAt s depth at) (readExpr de
     go zero h = h
     go (suc d) h = h
 
-form-word : (s : List ℕ) (at depth : ℕ) (w : Word) (xs : Exprs) (n : ℕ) → readExpr depth s at ≡ got (form-expr w xs) n → IsWord w
-form-word s at depth w xs n e = go depth (holds-at (ExprAt s depth at) (readExpr depth s at) (form-expr w xs) n (expr-sound s depth at) e .1)
-  where
-    go : (d : ℕ) → IsExpr d (form-expr w xs) → IsWord w
-    go zero h = absurd h
-    go (suc d) h = h .0
-
 module _ (s : List ℕ) (at b : ℕ) (eb : b ≡ getD s at 0) (depth : ℕ) (ps : Known Kind) where
   module _ (h : b ≡ 40 → ⊥) (r : WordRead) (er : r ≡ coded (readWord s at)) where
     -- a word: f is the kind code found for it
@@ -114,8 +107,8 @@ module _ (s : List ℕ) (at b : ℕ) (eb : b ≡ getD s at 0) (depth : ℕ) (ps 
     unfolding kindOfExpr
     form-has q f = record {
       is = λ x n e.
-          let (w, xs, ec, ea, ex) = form-read s at b eb depth h d r er code m hr x n e in
-          rw ex (f w (form-word s at depth w xs n (e ∙ ap (λ y. got y n) ex)) ec (kindsOfExprs xs ps) n (hg .is xs n ea));
+          let (w, xs, hw, ec, ea, ex) = form-read s at b eb depth h d r er code m hr x n e in
+          rw ex (f w hw ec (kindsOfExprs xs ps) n (hg .is xs n ea));
     }
 
     pub form-refused : (number : ℕ) → g ≡ KeyRead.Refused number → ExprHas s at depth ps (KindRead.Refused number)

@@ -47,3 +47,10 @@ pub mod PassedLaws
 pub mod KindSteps
 pub mod LineKindSteps
 pub mod AdmitSteps
+pub mod EvalSteps
+pub mod OperandLaws
+pub mod LinePlaces
+pub mod EffectSteps
+pub mod KnownLaws
+pub mod RunSteps
+pub mod AnswerSteps

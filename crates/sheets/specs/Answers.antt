@@ -10,6 +10,8 @@ use Rattle.sheets.specs.Trees.{Head, wgs84, custom, Sheet}
 use Rattle.sheets.specs.Reader.{Form, formed, badLine, readSheet}
 use Rattle.sheets.specs.Limits.{numValue, between}
 use Rattle.sheets.specs.Refusals.{Refusal, size, lent, form, ellipsoid, fault, stop, refusalNumber}
+pub use Rattle.sheets.specs.declared.answers.CheckAnswer.{CheckAnswer}
+pub use Rattle.sheets.specs.declared.answers.RunAnswer.{RunAnswer}
 use Rattle.sheets.specs.Machine.{State, Ran, done, stopped, stuck, machine}
 use Rattle.sheets.specs.Check.{Walked, passes, refuses, walk}
 
@@ -55,10 +57,6 @@ verdict l s = ofSize (sized s) l s
 
 -- ---- the check, lent a kind list
 
-pub record CheckAnswer : Type 0 where
-  pub number : ℕ
-  pub line : ℕ
-
 abbrev pub checkOf : Verdict → CheckAnswer
 checkOf (admitted c cs) = record { number = 0; line = 0 }
 checkOf (refused r j) = record { number = refusalNumber r; line = j }
@@ -82,11 +80,6 @@ unfoldable pub kindsAfter : List ℕ → List ℕ → List ℕ
 kindsAfter s kinds = kindsOfVerdict (verdict (lentKinds kinds) s) kinds
 
 -- ---- the run, lent readings and an output
-
-pub record RunAnswer : Type 0 where
-  pub number : ℕ
-  pub line : ℕ
-  pub written : ℕ
 
 -- the machine's number, line and count of bytes (a sheet that is admitted never sticks)
 abbrev pub ranAnswer : Ran → RunAnswer

@@ -21,6 +21,10 @@ pub mod Applied
 pub mod KindCodes
 pub mod Views
 pub mod Writing
-pub mod Computed
 pub mod FirstLines
 pub mod Walking
+pub mod Operands
+pub mod Evaluating
+pub mod Running
+pub mod Both
+pub mod Computed

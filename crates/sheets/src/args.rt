@@ -4,6 +4,7 @@ use frames::orientation::Orientation;
 use numbers::angle::Angle;
 use numbers::length::Length;
 ghost use mathlib.Core.Path.{_≡_};
+ghost use Prim.Native.Nat.{_≤_};
 ghost use mathlib.Core.List.{[], _∷_};
 ghost use Rattle.sheets.specs.Kinds.{place, sameOrientation};
 ghost use Rattle.sheets.specs.Letters.{hold, 𝐚, 𝐥};
@@ -53,8 +54,9 @@ pub fn push(a: Args, v: Value) -> Args
     }
 }
 
-fn place_of(o: Orientation) -> u8
-    ensures { λ r. ⌜ r ≡ place o ⌝ }
+// An orientation's place in the order of document 01.
+pub fn place_of(o: Orientation) -> u8
+    ensures { λ r. ⌜ (r ≡ place o) × (r ≤ 3) ⌝ }
 {
     match o {
         Orientation::Enu => 0,

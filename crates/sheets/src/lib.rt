@@ -1,8 +1,13 @@
-// Bore sheets: their values and the table of names, the reader of lines, words, numbers and expressions, the rows of the kind table, the limits and the text of a value. The check and the run come above these.
+// Bore sheets: the check of a sheet and its run over sixteen readings, and what they are made of: values and the table of names, the reader of lines, words, numbers and expressions, the rows of the kind table and the limits, the walk over kinds, the evaluator and the text of a value.
 pub mod admit;
+pub mod answers;
 pub mod args;
 pub mod bytes;
+pub mod check;
+pub mod check_and_run;
 pub mod dispatch;
+pub mod effects;
+pub mod eval;
 pub mod expr;
 mod fields;
 pub mod first_line;
@@ -13,7 +18,10 @@ pub mod kind_walk;
 pub mod kinds;
 pub mod limits;
 pub mod lines;
+pub mod lines_run;
 pub mod num;
+pub mod operands;
 pub mod rows;
+pub mod run;
 pub mod text;
 pub mod value;

@@ -12,7 +12,7 @@ place-of-requires-2 : tie.Need-place-of-requires-2
 place-of-requires-2 c κs = search needs
 
 returns : tie.Need-returns
-returns c = ap₂ eqb (c .before .place-of .ensures) (c .place-of2 .ensures)
+returns c = ap₂ eqb (c .before .place-of .ensures .0) (c .place-of2 .ensures .0)
 
 pub same-orientation-spec : {M : Type 1} → statement M
 same-orientation-spec = tie.close (tie.spec place-of-requires place-of-requires-2 returns)

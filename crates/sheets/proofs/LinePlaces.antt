@@ -1,0 +1,72 @@
+-- A line that stands alone, by its places: its word, the space before its expression, its LF. Assumes nothing.
+use Prim.Native.Nat.{ℕ, zero, suc, _+_, _-_, _<_, _≤_}
+use native.Mathlib.Omega.{arith}
+use native.Mathlib.Nat.{add-zero}
+use mathlib.Core.Path.{_≡_, refl, sym, ap, _∙_}
+use mathlib.Core.Bool.{Bool, true, false, cond}
+use mathlib.Core.List.{List, [], _∷_, _++_}
+use lib.Dec.{eqb}
+use lib.ListN.{length, getD, length-append}
+use borrow.Author.Tests.{eq-eqb, eqb-true, eqb-false}
+use Rattle.sheets.specs.Text.{Word, ascii, _⌢_, lf, countLF}
+use Rattle.sheets.specs.Trees.{Expr, Line, let-line, show-line}
+use Rattle.sheets.specs.Grammar.{print, printLine, IsLine}
+use Rattle.sheets.specs.Reader.{Got, got, readWord, readExpr, readLine}
+use Rattle.sheets.proofs.Spans.{Spans, spans-split, spans-end, holds-at}
+use Rattle.sheets.proofs.TokenLaws.{word-complete}
+use Rattle.sheets.proofs.ExprLaws.{expr-complete}
+use Rattle.sheets.proofs.PieceLaws.{close, close-first, space-first}
+use Rattle.sheets.proofs.LineLaws.{LineStands, line-sound}
+use Rattle.sheets.proofs.LineNumbers.{line-lf}
+
+stands : (s : List ℕ) (at : ℕ) (l : Line) (n : ℕ) → readLine s at ≡ got l n → LineStands s at l n
+stands s at l n e = holds-at (LineStands s at) (readLine s at) l n (line-sound s at) e
+
+-- a let
+pub let-places : (l : List ℕ) (w : Word) (x : Expr) (n : ℕ) → readLine l 0 ≡ got (let-line w x) n
+    → (i j : ℕ) × (getD l 1 0 ≡ 108) × (getD l 4 0 ≡ 32) × (readWord l 5 ≡ got w i) × (getD l i 0 ≡ 32) × (readExpr 11 l (i + 1) ≡ got x j)
+unfolding Spans
+let-places l w x n e =
+    let (p, h, le, lt) = stands l 0 (let-line w x) n e in
+    let (i, q, r) = spans-split l w (32 ∷ (print x ++ close)) 5 n (p .1 .1 .1 .1 .1) in
+    let (j, t, u) = spans-split l (print x) close (i + 1) n (r .1) in
+    (i, j, p .1 .0, p .1 .1 .1 .1 .0, word-complete l w 5 i q (h .0 .0) (space-first l (print x ++ close) i n r), r .0, expr-complete l x 11 (i + 1) j t (h .0 .1) (close-first l j n u))
+
+-- a show
+pub show-places : (l : List ℕ) (w : Word) (n : ℕ) → readLine l 0 ≡ got (show-line w) n → (i : ℕ) × (getD l 1 0 ≡ 115) × (getD l 5 0 ≡ 32) × (readWord l 6 ≡ got w i)
+unfolding Spans
+show-places l w n e =
+    let (p, h, le, lt) = stands l 0 (show-line w) n e in
+    let (i, q, r) = spans-split l w close 6 n (p .1 .1 .1 .1 .1 .1) in
+    (i, p .1 .0, p .1 .1 .1 .1 .1 .0, word-complete l w 6 i q (h .0) (close-first l i n r))
+
+-- ---- the LF
+
+no-lf : (t : List ℕ) → countLF t ≡ 0 → (s : List ℕ) (at n : ℕ) → Spans s t at n → (k : ℕ) → at ≤ k → k < n → getD s k 0 ≡ 10 → ⊥
+unfolding Spans countLF
+no-lf [] z s at n p k lo hi e = omega (arith, p)
+no-lf (b ∷ t) z s at n p k lo hi e = go (eqb k at) refl (λ y h. no-lf t y s (at + 1) n (p .1) k h hi e)
+  where
+    first : (c : Bool) → eqb b 10 ≡ c → cond c 1 0 + countLF t ≡ 0 → (b ≡ 10 → ⊥) × (countLF t ≡ 0)
+    first true q z = absurd (omega arith)
+    first false q z = ((λ i. let j : true ≡ false = sym (eq-eqb b 10 i) ∙ q in let x : _≡_ {A = ℕ} 0 1 = cc in omega arith), omega arith)
+
+    go : (c : Bool) → eqb k at ≡ c → (countLF t ≡ 0 → at + 1 ≤ k → ⊥) → ⊥
+    go true q later =
+        let i : k ≡ at = eqb-true k at q in
+        first (eqb b 10) refl z .0 (sym (p .0) ∙ ap (λ m. getD s m 0) (sym i) ∙ e)
+    go false q later =
+        let i : k ≡ at → ⊥ = eqb-false k at q in
+        later (first (eqb b 10) refl z .1) (omega (arith, i))
+
+-- the line's LF is its last byte and the first LF from its place on
+pub line-ends : (s : List ℕ) (at : ℕ) (l : Line) (n : ℕ) → readLine s at ≡ got l n
+    → (m : ℕ) × (n ≡ m + 1) × (n ≤ length s) × (n ≤ at + 200) × (at ≤ m) × (getD s m 0 ≡ 10) × ((k : ℕ) → at ≤ k → k < m → getD s k 0 ≡ 10 → ⊥)
+unfolding Spans
+line-ends s at l n e =
+    let (p, h, le, lt) = stands s at l n e in
+    let (t, et, z) = line-lf l (h .0) in
+    let q : Spans s (t ++ lf) at n = rw et at p in
+    let (m, qa, qb) = spans-split s t lf at n q in
+    let i : m ≡ at + length t = spans-end s t at m qa in
+    (m, sym (qb .1), le, omega (arith, spans-end s (printLine l) at n p, h .1), omega (arith, i), qb .0, no-lf t z s at m qa)

@@ -1,0 +1,98 @@
+-- What the pieces of the run answer, said of the machine over what the reader reads.
+-- No part of what must be believed: they only tie the code to the machine.
+use Prim.Native.Nat.{ℕ, zero, suc, _+_, _-_, _*_, _≤_}
+use mathlib.Core.Path.{_≡_}
+use mathlib.Core.List.{List, [], _∷_}
+use lib.Dec.{eqb, leb}
+use lib.ListN.{length, getD}
+use lib.Ieee.{Float}
+use Rattle.numbers.specs.Ops.{num}
+use Rattle.frames.specs.declared.ellipsoid.Ellipsoid.{Ellipsoid}
+use Rattle.sheets.specs.declared.value.Value.{Value}
+use Rattle.sheets.specs.declared.value.Value.the-variants.{Number}
+use Rattle.sheets.specs.declared.value.Slot.{Slot}
+use Rattle.sheets.specs.Slots.{emptySlot}
+use Rattle.sheets.specs.Text.{Word}
+use Rattle.sheets.specs.Trees.{Expr, Line, let-line, show-line}
+use Rattle.sheets.specs.Grammar.{IsWord}
+use Rattle.sheets.specs.Codes.{codeOf}
+use Rattle.sheets.specs.Reader.{got, readWord, readLine, formed, readLines}
+use Rattle.sheets.specs.Names.{Known, lookup}
+use Rattle.sheets.specs.Table.{when}
+use Rattle.sheets.specs.Refusals.{stop, refusalNumber}
+use Rattle.sheets.specs.Machine.{Out, goes, stops, sticks, meet, eval, State, steps}
+use Rattle.sheets.specs.declared.answers.RunAnswer.{RunAnswer}
+use Rattle.sheets.specs.Answers.{laid, ranAnswer, ranText}
+use Rattle.sheets.specs.Claim.{Unstuck}
+use Rattle.sheets.specs.Operands.{foundOf, Ready}
+use Rattle.sheets.specs.declared.operands.Found.{Found}
+use Rattle.sheets.specs.declared.effects.Effect.{Effect}
+
+-- ---- the known words: those in the table of names, the newest first, and then the readings
+
+abbrev pub orFound : Found → Found → Found
+orFound (Found.Value v) f = Found.Value v
+orFound Found.Unknown f = f
+
+-- the word with this code among the first n slots
+unfoldable pub slotFound : ℕ → List Slot → ℕ → Found
+slotFound zero t c = Found.Unknown
+slotFound (suc n) t c = when (eqb (getD t n emptySlot .word) c) (Found.Value (getD t n emptySlot .value)) (slotFound n t c)
+
+-- the place of a number in a list, the list's length where it is not there
+unfoldable pub indexIn : List ℕ → ℕ → ℕ
+indexIn [] c = 0
+indexIn (k ∷ ks) c = when (eqb c k) 0 (suc (indexIn ks c))
+
+-- the number of the reading whose word has this code, r0 to r15; 16 for none
+unfoldable pub readingIndex : ℕ → ℕ
+readingIndex c = indexIn (693 ∷ 694 ∷ 695 ∷ 696 ∷ 697 ∷ 698 ∷ 699 ∷ 700 ∷ 701 ∷ 702 ∷ 25705 ∷ 25706 ∷ 25707 ∷ 25708 ∷ 25709 ∷ 25710 ∷ []) c
+
+unfoldable pub readingFound : ℕ → List Float → Found
+readingFound c rs = let i = readingIndex c in when (leb 16 i) Found.Unknown (Found.Value (Number (getD rs i (num 0))))
+
+-- n slots and the readings stand for the known words ps
+pub record Tabled (ps : Known Value) (t : List Slot) (n : ℕ) (rs : List Float) : Type 0 where
+  pub is : (w : Word) → IsWord w → foundOf (lookup w ps) ≡ orFound (slotFound n t (codeOf w)) (readingFound (codeOf w) rs)
+
+-- ---- a line
+
+-- r is the place after the next LF, at most 200 bytes on; where a line stands it is the place of the next line
+pub record NextLine (s : List ℕ) (at r : ℕ) : Type 0 where
+  pub low : at ≤ r
+  pub high : at ≤ length s → r ≤ length s
+  pub short : r ≤ at + 200
+  pub is : (l : Line) (n : ℕ) → readLine s at ≡ got l n → r ≡ n
+
+unfoldable pub letEffect : ℕ → Out Value → Effect
+letEffect c (goes fs v) = Effect.Gives c v
+letEffect c (stops fs r) = Effect.Stops (refusalNumber (stop r))
+letEffect c (sticks fs) = Effect.Sticks
+
+unfoldable pub showEffect : ℕ → Out Value → Effect
+showEffect m (goes fs v) = Effect.Shows m v
+showEffect m (stops fs r) = Effect.Stops (refusalNumber (stop r))
+showEffect m (sticks fs) = Effect.Sticks
+
+-- what a line does; a let's word stands at the place 5 of its line, a show's at the place 6
+unfoldable pub EffectOf : List ℕ → Line → Ellipsoid → Known Value → Effect → Type 0
+EffectOf l (let-line w x) e ps r = r ≡ letEffect (codeOf w) (eval x e ps)
+EffectOf l (show-line w) e ps r = (m : ℕ) × (readWord l 6 ≡ got w m) × (r ≡ showEffect m (meet (lookup w ps)))
+
+pub record LetWith (l : List ℕ) (e : Ellipsoid) (ks : List ℕ) (fs : List (List Float)) (r : Effect) : Type 0 where
+  pub is : (ps : Known Value) → Ready l ks fs ps → (w : Word) (x : Expr) (n : ℕ) → readLine l 0 ≡ got (let-line w x) n → r ≡ letEffect (codeOf w) (eval x e ps)
+
+pub record ShowWith (l : List ℕ) (ks : List ℕ) (fs : List (List Float)) (r : Effect) : Type 0 where
+  pub is : (ps : Known Value) → Ready l ks fs ps → (w : Word) (n : ℕ) → readLine l 0 ≡ got (show-line w) n → (m : ℕ) × (readWord l 6 ≡ got w m) × (r ≡ showEffect m (meet (lookup w ps)))
+
+pub record EffectWith (l : List ℕ) (e : Ellipsoid) (ks : List ℕ) (fs : List (List Float)) (r : Effect) : Type 0 where
+  pub is : (ps : Known Value) → Ready l ks fs ps → (x : Line) (n : ℕ) → readLine l 0 ≡ got x n → EffectOf l x e ps r
+
+-- ---- the lines
+
+-- From line `number` on, where n words are in the table t, and `out`, at first d, holds the text written: the run answers r and leaves out′.
+pub record Runs (s : List ℕ) (e : Ellipsoid) (rs : List Float) (d : List ℕ) (at number : ℕ) (t : List Slot) (n written : ℕ) (out : List ℕ) (r : RunAnswer) (out′ : List ℕ) : Type 0 where
+  pub is : length d ≡ 24576 → (ls : List Line) (left p : ℕ) → readLines left number p s at ≡ formed ls → number + left ≡ 97
+      → (st : State) → st .ellipsoid ≡ e → Tabled (st .known) t n rs → written ≡ length (st .text) → written ≤ 223 * (number - 2) → out ≡ laid (st .text) d
+      → Unstuck (steps ls number st)
+      → (r ≡ ranAnswer (steps ls number st)) × (out′ ≡ laid (ranText (steps ls number st)) d)

@@ -1,0 +1,149 @@
+// The evaluator: it calls itself with the bracket depth left falling. A value is tested where it is met, a bracket's after its row.
+use crate::args::Applied;
+use crate::args::Args;
+use crate::args::push;
+use crate::bytes::WordRead;
+use crate::bytes::byte;
+use crate::bytes::word;
+use crate::dispatch::apply;
+use crate::limits::in_limit;
+use crate::num::DoubleRead;
+use crate::num::double;
+use crate::operands::Found;
+use crate::operands::operand_at;
+use crate::value::Value;
+use frames::ellipsoid::Ellipsoid;
+ghost use mathlib.Core.Path.{_≡_};
+ghost use mathlib.Core.List.{[]};
+ghost use Rattle.sheets.specs.Machine.{met};
+ghost use Rattle.sheets.specs.Evaluating.{evaluated, EvalsWith, LeafWith, GathersWith};
+
+// A value and the place after its expression; the number of the refusal that stops the machine, 7 or 8; or that the machine sticks.
+pub enum Evaluated {
+    Is(Value, usize),
+    Stops(u8),
+    Sticks,
+}
+
+// The same of a bracket's arguments.
+pub enum Gathered {
+    Are(Args, usize),
+    Stops(u8),
+    Sticks,
+}
+
+// The test of refusal 7.
+pub fn tested(v: Value, n: usize) -> Evaluated
+    ensures { λ r. ⌜ r ≡ evaluated (met v) n ⌝ }
+{
+    if in_limit(v) {
+        Evaluated::Is(v, n)
+    } else {
+        Evaluated::Stops(7)
+    }
+}
+
+// A word or a NUM.
+fn leaf(s: &[u8], at: usize, kinds: &[u8; 101], rows: &[[f64; 21]; 101]) -> Evaluated
+    ensures { λ r. ⌜ LeafWith (now (s .entry)) at (now (kinds .entry)) (now (rows .entry)) r ⌝ }
+{
+    let w = word(s, at);
+    match w {
+        WordRead::Is(_, end) => {
+            let f = operand_at(kinds, rows, at / 2);
+            match f {
+                Found::Value(v) => tested(v, end),
+                Found::Unknown => Evaluated::Sticks,
+            }
+        }
+        WordRead::Not => {
+            let q = double(s, at);
+            match q {
+                DoubleRead::Is(x, end) => tested(Value::Number(x), end),
+                DoubleRead::Not => Evaluated::Sticks,
+            }
+        }
+    }
+}
+
+// The expression at a place, with at most `depth` brackets in each other.
+pub fn eval(
+    s: &[u8],
+    at: usize,
+    depth: usize,
+    e: Ellipsoid,
+    kinds: &[u8; 101],
+    rows: &[[f64; 21]; 101],
+) -> Evaluated
+    ensures { λ r. ⌜ EvalsWith (now (s .entry)) at depth e (now (kinds .entry)) (now (rows .entry)) r ⌝ }
+{
+    let b = byte(s, at);
+    if b == 40 {
+        if depth == 0 {
+            return Evaluated::Sticks;
+        }
+        let w = word(s, at + 1);
+        let WordRead::Is(code, start) = w else {
+            return Evaluated::Sticks;
+        };
+        let g = gather(s, start, depth - 1, e, kinds, rows);
+        return match g {
+            Gathered::Sticks => Evaluated::Sticks,
+            Gathered::Stops(k) => Evaluated::Stops(k),
+            Gathered::Are(a, end) => {
+                let r = apply(e, code, a);
+                match r {
+                    Applied::Value(v) => tested(v, end),
+                    Applied::NoRow => Evaluated::Sticks,
+                    Applied::Centre => Evaluated::Stops(8),
+                }
+            }
+        };
+    }
+    leaf(s, at, kinds, rows)
+}
+
+// The arguments at a place and the closing bracket.
+pub fn gather(
+    s: &[u8],
+    at: usize,
+    depth: usize,
+    e: Ellipsoid,
+    kinds: &[u8; 101],
+    rows: &[[f64; 21]; 101],
+) -> Gathered
+    ensures { λ r. ⌜ GathersWith (now (s .entry)) at depth 5 e (now (kinds .entry)) (now (rows .entry)) [] r ⌝ }
+{
+    let mut i = at;
+    let mut left: usize = 5;
+    let mut a = Args::None;
+    while 0 < left {
+        let b = byte(s, i);
+        if b == 41 {
+            return Gathered::Are(a, i + 1);
+        }
+        if b == 32 {
+            let r = eval(s, i + 1, depth, e, kinds, rows);
+            match r {
+                Evaluated::Sticks => {
+                    return Gathered::Sticks;
+                }
+                Evaluated::Stops(k) => {
+                    return Gathered::Stops(k);
+                }
+                Evaluated::Is(v, end) => {
+                    a = push(a, v);
+                    i = end;
+                    left -= 1;
+                }
+            }
+        } else {
+            return Gathered::Sticks;
+        }
+    }
+    let b = byte(s, i);
+    if b == 41 {
+        return Gathered::Are(a, i + 1);
+    }
+    Gathered::Sticks
+}

@@ -1,0 +1,141 @@
+// The lines of an admitted sheet, run one after another over the table of names.
+use crate::answers::RunAnswer;
+use crate::answers::run_answer;
+use crate::bytes::WordRead;
+use crate::effects::Effect;
+use crate::effects::line_effect;
+use crate::effects::next_line;
+use crate::lines::word_slot;
+use crate::operands::Found;
+use crate::operands::put_found;
+use crate::text::output_line;
+use crate::value::Slot;
+use crate::value::Value;
+use crate::value::no_names;
+use frames::ellipsoid::Ellipsoid;
+ghost use mathlib.Core.Path.{_≡_};
+ghost use Rattle.sheets.specs.Slots.{noNames};
+ghost use Rattle.sheets.specs.Running.{readingIndex, readingFound, orFound, Runs};
+
+// The number of the reading whose word has this code; 16 for none.
+fn reading_index(code: u64) -> usize
+    ensures { λ r. ⌜ r ≡ readingIndex code ⌝ }
+{
+    match code {
+        693 => 0,
+        694 => 1,
+        695 => 2,
+        696 => 3,
+        697 => 4,
+        698 => 5,
+        699 => 6,
+        700 => 7,
+        701 => 8,
+        702 => 9,
+        25705 => 10,
+        25706 => 11,
+        25707 => 12,
+        25708 => 13,
+        25709 => 14,
+        25710 => 15,
+        _ => 16,
+    }
+}
+
+// A reading by its word's code.
+fn reading(code: u64, readings: &[f64]) -> Found
+    ensures { λ r. ⌜ r ≡ readingFound code (now (readings .entry)) ⌝ }
+{
+    let i = reading_index(code);
+    if 16 <= i {
+        return Found::Unknown;
+    }
+    if i < readings.len() {
+        return Found::Value(Value::Number(readings[i]));
+    }
+    Found::Value(Value::Number(0.0))
+}
+
+// What was found in the table, or else a reading.
+fn or_reading(found: Found, code: u64, readings: &[f64]) -> Found
+    ensures { λ r. ⌜ r ≡ orFound found (readingFound code (now (readings .entry))) ⌝ }
+{
+    match found {
+        Found::Value(v) => Found::Value(v),
+        Found::Unknown => reading(code, readings),
+    }
+}
+
+// The lines from line 2, which stands at `start`. An admitted sheet never sticks, so what is answered then does not matter.
+// The table of names stays here: it is read where a line's words are looked up, and a let stores one slot.
+pub fn run_lines(
+    s: &[u8],
+    start: usize,
+    e: Ellipsoid,
+    readings: &[f64],
+    out: &mut [u8],
+) -> RunAnswer
+    ensures { λ r. ⌜ Runs (now (s .entry)) e (now (readings .entry)) (now (out .entry)) start 2 noNames 0 0 (now (out .entry)) r (now (out .exit)) ⌝ }
+{
+    let mut t = no_names();
+    let mut kinds = [255u8; 101];
+    let zeros = [0.0; 21];
+    let mut rows = [zeros; 101];
+    let mut at = start;
+    let mut number: usize = 2;
+    let mut n: usize = 0;
+    let mut written: usize = 0;
+    while number <= 96 {
+        if s.len() <= at {
+            return run_answer(0, 0, written);
+        }
+        let to = next_line(s, at);
+        let l = &s[at..to];
+        let mut p: usize = 0;
+        while p < l.len() {
+            let w = word_slot(l, p);
+            let WordRead::Is(code, _) = w else {
+                p += 1;
+                continue;
+            };
+            let mut found = Found::Unknown;
+            let mut j = n;
+            while 0 < j {
+                j -= 1;
+                let x = t[j];
+                if x.word == code {
+                    let v = x.value;
+                    found = Found::Value(v);
+                    j = 0;
+                    continue;
+                }
+            }
+            let known = or_reading(found, code, readings);
+            put_found(&mut kinds, &mut rows, (p + 1) / 2, known);
+            p += 1;
+        }
+        let r = line_effect(l, e, &kinds, &rows);
+        match r {
+            Effect::Sticks => {
+                return run_answer(0, number, written);
+            }
+            Effect::Stops(k) => {
+                return run_answer(k, number, written);
+            }
+            Effect::Gives(word, value) => {
+                t[n] = Slot { word, value };
+                n += 1;
+                at = to;
+                number += 1;
+                continue;
+            }
+            Effect::Shows(end, value) => {
+                written = output_line(l, 6, end, value, out, written);
+                at = to;
+                number += 1;
+                continue;
+            }
+        }
+    }
+    run_answer(0, 0, written)
+}

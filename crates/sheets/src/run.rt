@@ -1,0 +1,40 @@
+// The run of a sheet over sixteen readings: refusals 1 to 6 over the whole sheet before line 2 runs, then its lines.
+use crate::admit::Outcome;
+use crate::admit::admit;
+use crate::answers::RunAnswer;
+use crate::answers::run_answer;
+use crate::check::is_sized;
+use crate::first_line::FirstLine;
+use crate::first_line::first_line;
+use crate::lines_run::run_lines;
+ghost use mathlib.Core.Path.{_≡_};
+ghost use Rattle.sheets.specs.Answers.{runAnswer, outAfter};
+
+// It writes exactly the shows' text, in the first bytes of the output, and answers their count.
+pub fn run(sheet: &[u8], readings: &[f64], out: &mut [u8]) -> RunAnswer
+    ensures { λ r. ⌜ (r ≡ runAnswer (now (sheet .entry)) (now (readings .entry)) (now (out .entry))) × (now (out .exit) ≡ outAfter (now (sheet .entry)) (now (readings .entry)) (now (out .entry))) ⌝ }
+{
+    let sized = is_sized(sheet.len());
+    if !sized {
+        return run_answer(1, 0, 0);
+    }
+    if readings.len() != 16 {
+        return run_answer(2, 0, 0);
+    }
+    if out.len() != 24576 {
+        return run_answer(2, 0, 0);
+    }
+    let a = admit(sheet);
+    let outcome = a.outcome;
+    match outcome {
+        Outcome::Refuses(number, line) => run_answer(number, line, 0),
+        Outcome::Passes(_) => {
+            let f = first_line(sheet);
+            match f {
+                FirstLine::Is(e, start) => run_lines(sheet, start, e, readings, out),
+                FirstLine::OutOfRange => run_answer(4, 1, 0),
+                FirstLine::Bad => run_answer(3, 1, 0),
+            }
+        }
+    }
+}
