@@ -1,4 +1,4 @@
-// A MODEL of `near`, `rounds` and `is_root` in crates/numbers/src/root.rt, by the same operations: it tells how often the root needs its slow digit loop, which the library does not say. The bench checks that it answers as the library does.
+// A MODEL of `near`, `rounds`, `is_root` and `beside` in crates/numbers/src/root.rt, by the same operations: it tells how often the root needs its slow digit loop, which the library does not say. The bench checks that it answers as the library does.
 
 const TWO_52: u64 = 1 << 52;
 const TWO_53: u64 = 1 << 53;
@@ -42,7 +42,17 @@ fn rounds(w: u64, r: u64) -> bool {
     left <= most && most - left < 2 * r
 }
 
-// The bits of the root of a double above zero, or None where the library finds its digits one by one.
+// Whether the double with the bits s is the root of the normal number with the bits b.
+fn is_root(b: u64, s: u64) -> bool {
+    let q = b / TWO_52;
+    let w = (TWO_52 + b % TWO_52) * (2 - q % 2);
+    match s.checked_sub((510 + (q + 1) / 2) * TWO_52) {
+        Some(r) => r < TWO_53 && rounds(w, r),
+        None => false,
+    }
+}
+
+// The bits of the root of a double above zero: the guess or one of its neighbours. None where the library finds its digits one by one.
 pub fn root(x: f64) -> Option<u64> {
     let b = x.to_bits();
     if b < TWO_52 {
@@ -52,8 +62,12 @@ pub fn root(x: f64) -> Option<u64> {
     if s.is_nan() {
         return None;
     }
-    let q = b / TWO_52;
-    let w = (TWO_52 + b % TWO_52) * (2 - q % 2);
-    let r = s.to_bits().checked_sub((510 + (q + 1) / 2) * TWO_52)?;
-    (r < TWO_53 && rounds(w, r)).then_some(s.to_bits())
+    let d = s.to_bits();
+    if is_root(b, d) {
+        return Some(d);
+    }
+    if d < TWO_52 || d >= f64::INFINITY.to_bits() {
+        return None;
+    }
+    [d + 1, d - 1].into_iter().find(|&c| is_root(b, c))
 }

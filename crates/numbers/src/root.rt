@@ -1,4 +1,4 @@
-// The square root: a number is guessed by steps on doubles and tested in whole numbers; where the test fails, the digits are found one by one.
+// The square root: a number is guessed by steps on doubles and tested in whole numbers, and where the test fails so are its two neighbours; where none is the root, the digits are found one by one.
 // The bits of x are w * 4^g with a w of 53 or 54 digits, and the root of w * 2^52 is the digits of the root of x.
 ghost use mathlib.Core.Path.{_≡_};
 ghost use mathlib.Core.Bool.{true};
@@ -214,6 +214,32 @@ fn is_root(b: u64, s: f64) -> bool
     rounds(n.w, r)
 }
 
+// The root of x, whose bits are b, where it is the double next to s; else by digits. A guess that misses the root misses it by one.
+fn beside(x: f64, b: u64, s: f64) -> f64
+    requires { ⌜ (2 ^ 52 ≤ b) × (b < 0x7ff0_0000_0000_0000) × (ofBits binary64 b ≡ x) ⌝ }
+    ensures { λ r. ⌜ r ≡ Root.sqrt x ⌝ }
+{
+    if s != s {
+        return plain(x);
+    }
+    let d = f64::to_bits(s);
+    if d < TWO_52 {
+        return plain(x);
+    }
+    if d >= INFINITY_BITS {
+        return plain(x);
+    }
+    let up = f64::from_bits(d + 1);
+    if is_root(b, up) {
+        return up;
+    }
+    let down = f64::from_bits(d - 1);
+    if is_root(b, down) {
+        return down;
+    }
+    plain(x)
+}
+
 // The root by `near` where the test confirms it. The answer does not wait for the test: only the jump does.
 pub fn sqrt(x: f64) -> f64
     ensures { λ r. ⌜ r ≡ Root.sqrt x ⌝ }
@@ -228,6 +254,7 @@ pub fn sqrt(x: f64) -> f64
             if is_root(b, s) {
                 return s;
             }
+            return beside(x, b, s);
         }
     }
     plain(x)
