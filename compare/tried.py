@@ -1,0 +1,335 @@
+"""The sheets of the program `tried`, and what it must print for them.
+
+    tried.py FOLDER    writes FOLDER/stdin and FOLDER/stdout
+
+Sheets and answers are written here from document 01: first its "Sheets to try", in its order, then sheets on its other
+statements. Nothing is taken from the program's output, and nothing of this repository's Rattle is used. A sheet of which
+01 says only that it passes shows nothing but numbers that stand in it or among its readings. `compare/tried-run` makes
+both files anew and compares them with the stored ones; the gate runs the program and compares what it prints.
+"""
+
+import struct
+import sys
+from pathlib import Path
+
+KINDS = "n a l g d venu vned vbody vwan fenu fned fbody fwan".split()
+POLE = "(ellipsoid 6400000 128)"
+WGS84 = "(ellipsoid wgs84)"
+NAN = 0x7FF8000000000000
+PI_HALF = 1.5707963267948966
+# What is no case ends the program's run.
+NO_CASE = "4002 28\n"
+
+
+def bits(x):
+    return struct.unpack(">Q", struct.pack(">d", x))[0]
+
+
+def shown(name, kind, *values):
+    """An output line."""
+    return name + " " + kind + "".join(" %016x" % bits(x) for x in values) + "\n"
+
+
+def joined(lines):
+    return "".join(line + "\n" for line in lines).encode()
+
+
+def case(sheet, readings, codes, checked, ran, text):
+    """A line of the input and the lines that answer it. Readings are bits by their index, the others 0."""
+    words = "".join("%016x " % readings.get(i, 0) for i in range(16))
+    given = "%04x %s%s\n" % (len(sheet), words, sheet.hex())
+    said = "check %d %d%s\n" % (*checked, "".join(" %d" % c for c in codes))
+    return given, said + "run %d %d %d\n%s" % (*ran, len(text), text)
+
+
+def stops(lines, kinds, number, line, text="", readings={}):
+    """A sheet that is admitted, with the kinds of line 2 on; the run is refused."""
+    codes = [255] + [KINDS.index(kind) for kind in kinds.split()]
+    assert len(codes) == len(lines)
+    return case(joined(lines), readings, codes, (0, 0), (number, line), text)
+
+
+def passes(lines, kinds, text="", readings={}):
+    return stops(lines, kinds, 0, 0, text, readings)
+
+
+def refused(lines, number, line, readings={}):
+    """A sheet that the check refuses, and so the run. Lines, or the whole sheet's bytes."""
+    sheet = lines if isinstance(lines, bytes) else joined(lines)
+    return case(sheet, readings, [], (number, line), (number, line), "")
+
+
+# ---- "Sheets to try", in document 01's order
+
+FIRST = [
+    POLE,
+    "(let p (lla (deg 90) (deg 0) (m 0)))",
+    "(let f (enu p))",
+    "(let v (venu (m 1) (m 2) (m 3)))",
+    "(let w (swap v))",
+    "(let z (to f (origin f)))",
+    "(show f)",
+    "(show w)",
+    "(show z)",
+]
+
+# Word for word as document 01 prints it.
+FIRST_TEXT = """\
+f fenu 0000000000000000 0000000000000000 4158392c00000000 bff0000000000000 0000000000000000 0000000000000000 0000000000000000 bff0000000000000 0000000000000000 0000000000000000 0000000000000000 3ff0000000000000
+w vned 4000000000000000 3ff0000000000000 c008000000000000
+z venu 0000000000000000 0000000000000000 0000000000000000
+"""
+
+
+def from_centre(x):
+    return [POLE, "(let f (enu (geo (m %s) (m 0) (m 0))))" % x]
+
+
+def elevation(z):
+    """elev of enu (0, 0, z), z as r1's bits."""
+    return [WGS84, "(let e (elev (venu (m r0) (m r0) (m r1))))", "(show e)"], {1: bits(z)}
+
+
+def deep(brackets):
+    """A let whose brackets nest so deep, its own included."""
+    negs = brackets - 3
+    return [WGS84, "(let v " + "(neg " * negs + "(venu (m 1) (m 2) (m 3))" + ")" * negs + ")"]
+
+
+def sheets_to_try():
+    yield passes(FIRST, "d fenu venu vned venu fenu vned venu", FIRST_TEXT)
+    yield passes(from_centre("3200000"), "fenu")
+    yield stops(from_centre("3199999"), "fenu", 8, 2)
+    yield stops(from_centre("0"), "fenu", 8, 2)
+    yield passes([WGS84, "(let a 100000000)", "(show a)"], "n n", shown("a", "n", 100000000.0))
+    yield stops([WGS84, "(let a 100000000.000001)"], "n", 7, 2)
+    yield stops([WGS84, "(let a r0)"], "n", 7, 2, readings={0: NAN})
+    yield passes([WGS84, "(let a r1)", "(show a)"], "n n", shown("a", "n", 0.0), readings={0: NAN})
+    yield passes([WGS84, "(let a (deg 3666))"], "a")
+    yield stops([WGS84, "(let a (deg 3667))"], "a", 7, 2)
+    yield refused([WGS84, "(let v (vbody (m 1) (m 2) (m 3)))", "(let w (swap v))"], 6, 3)
+    yield refused([WGS84, "(let r3 1)"], 5, 2)
+    for z, e in (2.0**-51, PI_HALF), (2.0**-52, 0.0):
+        lines, readings = elevation(z)
+        yield passes(lines, "a a", shown("e", "a", e), readings)
+    many = [WGS84, "(let a 1)"] + ["(show a)"] * 94
+    yield passes(many, "n " * 95, shown("a", "n", 1.0) * 94)
+    yield refused(many + ["(show a)"], 3, 97)
+    yield passes(deep(12), "venu")
+    yield refused(deep(13), 3, 2)
+
+
+# ---- sheets on the other statements of document 01
+
+# An expression of 69 bytes.
+LONG = "(venu " + " ".join(["(m 000000001.000000)"] * 3) + ")"
+
+
+def sizes():
+    """Refusal 1: 0 and 16,385 bytes are no sheet, 16,384 are."""
+    names = ["tip%05d" % i if i < 26 else "tip%04d" % i for i in range(95)]
+    lines = [WGS84] + ["(let %s (neg (neg (add %s %s))))" % (name, LONG, LONG) for name in names]
+    assert len(joined(lines)) == 16384 and max(map(len, lines)) < 200
+    yield refused(b"", 1, 0)
+    yield passes(lines, "venu " * 95)
+    yield refused(joined(lines) + b"\n", 1, 0)
+    yield refused(b"\0" * 16385, 1, 0)
+
+
+def grammar():
+    """The edges of the grammar: the longest word, the most digits and arguments, the longest line."""
+    one = shown("abcdefghij01", "n", 1.0)
+    yield passes([WGS84, "(let abcdefghij01 1)", "(show abcdefghij01)"], "n n", one)
+    yield refused([WGS84, "(let abcdefghij012 1)"], 3, 2)
+    yield refused([WGS84, "(let a 1)", "(show A)"], 3, 3)
+    yield passes([WGS84, "(let a -012345678.500000)", "(show a)"], "n n", shown("a", "n", -12345678.5))
+    yield refused([WGS84, "(let a 0012345678)"], 3, 2)
+    yield refused([WGS84, "(let a 1.0000000)"], 3, 2)
+    yield refused([WGS84, "(let a 1.)"], 3, 2)
+    yield refused([WGS84, "(let a (tip 1 2 3 4 5))"], 6, 2)
+    yield refused([WGS84, "(let a (tip 1 2 3 4 5 6))"], 3, 2)
+    long = "(let %s " + "(neg " * 7 + "(add %s %s)" % (LONG, LONG) + ")" * 8
+    assert len(long % "tip05") == 199
+    yield passes([WGS84, long % "tip05"], "venu")
+    yield refused([WGS84, long % "tip005"], 3, 2)
+
+
+def order():
+    """Refusals 3 to 6, the earlier before the later, 5 and 6 as they are met."""
+    unknown = "(show a)"
+    for radius, flattening in ("999999.999999", "128"), ("10000000.000001", "128"), ("6400000", "99.999999"), ("6400000", "1000.000001"):
+        yield refused(["(ellipsoid %s %s)" % (radius, flattening), unknown], 4, 1)
+    for radius, flattening in ("1000000", "100"), ("10000000", "1000"):
+        yield passes(["(ellipsoid %s %s)" % (radius, flattening), "(let a 1)"], "n")
+    yield refused(["(ellipsoid 1 1)", unknown, "(show  a)"], 3, 3)
+    yield refused(["(ellipsoid grs80)", unknown], 3, 1)
+    yield refused(joined([WGS84, unknown])[:-1], 3, 2)
+    yield refused([WGS84, unknown], 5, 2)
+    yield refused([WGS84, "(let a a)"], 5, 2)
+    yield refused([WGS84, "(let a 1)", "(let a 2)"], 5, 3)
+    yield refused([WGS84, "(let deg 1)"], 5, 2)
+    yield refused([WGS84, "(let a deg)"], 5, 2)
+    # the expression first, then the name
+    yield refused([WGS84, "(let r3 (swap 1))"], 6, 2)
+    yield refused([WGS84, "(let a 1)", "(let a (deg 1 2))"], 6, 3)
+    yield refused([WGS84, "(let deg (deg (m 1)))"], 6, 2)
+    # a bracket opened by another word has no row; arguments go from left to right
+    yield refused([WGS84, "(let a (tip 1))"], 6, 2)
+    yield refused([WGS84, "(let a (add b (tip 1)))"], 5, 2)
+    yield refused([WGS84, "(let a (add (tip 1) b))"], 6, 2)
+    # what would stop the run later is no matter of the check, which comes first
+    yield refused([WGS84, "(let a 100000001)", "(show a)", "(show b)"], 5, 4)
+
+
+def stopping():
+    """Refusals 7 and 8 leave the text of the earlier shows."""
+    one = shown("a", "n", 1.0)
+    begin = [WGS84, "(let a 1)", "(show a)"]
+    yield stops(begin + ["(let b 100000001)", "(show a)"], "n n n n", 7, 4, one)
+    yield stops(begin + ["(show r15)", "(show a)"], "n n n n", 7, 4, one, {15: NAN})
+    # a fix that never came: three zeros
+    fix = begin + ["(let p (geo (m r0) (m r1) (m r2)))"]
+    for made, kind in (
+        ("(enu p)", "fenu"),
+        ("(ned p)", "fned"),
+        ("(wan (deg 0) p)", "fwan"),
+        ("(body (deg 0) (deg 0) (deg 0) p)", "fbody"),
+        ("(look p p (deg 0))", "fbody"),
+        ("(tolla p)", "d"),
+    ):
+        yield stops(fix + ["(let f %s)" % made, "(show a)"], "n n g %s n" % kind, 8, 5, one)
+    # no number at all
+    for reading in NAN, 0x7FF0000000000001, 0xFFFFFFFFFFFFFFFF, bits(float("inf")), bits(float("-inf")):
+        yield stops(begin + ["(let l (m r7))"], "n n l", 7, 4, one, {7: reading})
+    yield passes([WGS84, "(let a -100000000)"], "n")
+    yield stops([WGS84, "(let a -100000000.000001)"], "n", 7, 2)
+    yield stops([WGS84, "(let a (deg -3667))"], "a", 7, 2)
+
+
+def showing():
+    """The readings, and numbers as they are written."""
+    values = [-0.0, 5e-324, -0.1, 100000000.0] + [i + 0.5 for i in range(4, 16)]
+    text = "".join(shown("r%d" % i, "n", x) for i, x in enumerate(values))
+    readings = {i: bits(x) for i, x in enumerate(values)}
+    yield passes([WGS84] + ["(show r%d)" % i for i in range(16)], "n " * 16, text, readings)
+    yield refused([WGS84, "(show r16)"], 5, 2)
+    yield passes([WGS84, "(let a -0)", "(show a)"], "n n", shown("a", "n", -0.0))
+    yield passes([WGS84, "(let length (m 2))", "(show length)"], "l l", shown("length", "l", 2.0))
+
+
+def operators():
+    """The operators of vectors, on whole numbers so small that doubles hold every result."""
+    begin = [WGS84, "(let v (venu (m 1) (m 2) (m 3)))", "(let w (venu (m 6) (m 5) (m -4)))"]
+    for made, result in (
+        ("(neg v)", (-1.0, -2.0, -3.0)),
+        ("(add v w)", (7.0, 7.0, -1.0)),
+        ("(sub v w)", (-5.0, -3.0, 7.0)),
+        ("(scale v 2)", (2.0, 4.0, 6.0)),
+    ):
+        yield passes(begin + ["(let x %s)" % made, "(show x)"], "venu venu venu venu", shown("x", "venu", *result))
+
+
+# The kind table: the expression, and its kind.
+TABLE = [
+    ("deg", "(deg 1)", "a"),
+    ("m", "(m 1)", "l"),
+    ("lla", "(lla xdeg xdeg xm)", "d"),
+    ("togeo", "(togeo xlla)", "g"),
+    ("tolla", "(tolla xtogeo)", "d"),
+    ("geo", "(geo xm xm xm)", "g"),
+    ("venu", "(venu xm xm xm)", "venu"),
+    ("vned", "(vned xm xm xm)", "vned"),
+    ("vbody", "(vbody xm xm xm)", "vbody"),
+    ("vwan", "(vwan xm xm xm)", "vwan"),
+    ("aenu", "(aenu xdeg xdeg xm)", "venu"),
+    ("aned", "(aned xdeg xdeg xm)", "vned"),
+    ("abody", "(abody xdeg xdeg xm)", "vbody"),
+    ("awan", "(awan xdeg xdeg xm)", "vwan"),
+    ("enu", "(enu xlla)", "fenu"),
+    ("enug", "(enu xtogeo)", "fenu"),
+    ("ned", "(ned xlla)", "fned"),
+    ("nedg", "(ned xtogeo)", "fned"),
+    ("wan", "(wan xdeg xlla)", "fwan"),
+    ("wang", "(wan xdeg xtogeo)", "fwan"),
+    ("body", "(body xdeg xdeg xdeg xlla)", "fbody"),
+    ("bodyg", "(body xdeg xdeg xdeg xtogeo)", "fbody"),
+    ("far", "(lla (deg 2) (deg 3) (m 4))", "d"),
+    ("look", "(look xlla xfar xdeg)", "fbody"),
+    ("lookg", "(look xtogeo xgeo xdeg)", "fbody"),
+    ("turn", "(turn xenu xdeg)", "fwan"),
+    ("turnn", "(turn xned xdeg)", "fwan"),
+    ("turnw", "(turn xwan xdeg)", "fwan"),
+    ("move", "(move xenu xvenu xdeg xdeg xdeg)", "fbody"),
+    ("moven", "(move xned xvned xdeg xdeg xdeg)", "fbody"),
+    ("moveb", "(move xbody xvbody xdeg xdeg xdeg)", "fbody"),
+    ("movew", "(move xwan xvwan xdeg xdeg xdeg)", "fbody"),
+    ("to", "(to xenu xgeo)", "venu"),
+    ("ton", "(to xned xgeo)", "vned"),
+    ("tob", "(to xbody xgeo)", "vbody"),
+    ("tow", "(to xwan xgeo)", "vwan"),
+    ("at", "(at xenu xvenu)", "g"),
+    ("atn", "(at xned xvned)", "g"),
+    ("atb", "(at xbody xvbody)", "g"),
+    ("atw", "(at xwan xvwan)", "g"),
+    ("neg", "(neg xvenu)", "venu"),
+    ("negn", "(neg xvned)", "vned"),
+    ("add", "(add xvbody xabody)", "vbody"),
+    ("sub", "(sub xvwan xawan)", "vwan"),
+    ("scale", "(scale xvned 2)", "vned"),
+    ("swap", "(swap xvenu)", "vned"),
+    ("swapn", "(swap xvned)", "venu"),
+    ("bearing", "(bearing xvwan)", "a"),
+    ("elev", "(elev xvbody)", "a"),
+    ("range", "(range xvned)", "l"),
+    ("origin", "(origin xenu)", "g"),
+    ("originb", "(origin xbody)", "g"),
+    ("rz", "(rz xned)", "a"),
+    ("ry", "(ry xwan)", "a"),
+    ("rx", "(rx xbody)", "a"),
+]
+
+# Some that are no rows.
+NO_ROWS = [
+    "(turn xbody xdeg)",
+    "(look xlla xgeo xdeg)",
+    "(look xgeo xlla xdeg)",
+    "(swap xvwan)",
+    "(add xvenu xvned)",
+    "(to xenu xlla)",
+    "(at xenu xvned)",
+    "(move xenu xvned xdeg xdeg xdeg)",
+    "(scale xvenu xm)",
+    "(togeo xgeo)",
+    "(tolla xlla)",
+    "(geo xdeg xdeg xm)",
+    "(lla xm xm xm)",
+    "(m xm)",
+    "(deg)",
+    "(bearing xenu)",
+    "(origin xvenu)",
+    "(rz xvenu)",
+]
+
+
+def table():
+    """Every row once and more, for its kind; and, behind them, what is no row."""
+    lines = [WGS84] + ["(let x%s %s)" % (name, made) for name, made, _ in TABLE]
+    yield passes(lines, " ".join(kind for _, _, kind in TABLE))
+    for made in NO_ROWS:
+        yield refused(lines + ["(let y %s)" % made], 6, len(lines) + 1)
+
+
+def main(folder):
+    count = 0
+    with open(folder / "stdin", "w") as given, open(folder / "stdout", "w") as expected:
+        for cases in sheets_to_try, sizes, grammar, order, stopping, showing, operators, table:
+            for sheet, said in cases():
+                given.write(sheet)
+                expected.write(said)
+                count += 1
+        given.write(NO_CASE)
+        expected.write("?\n")
+    print("%d sheets" % count)
+
+
+main(Path(sys.argv[1]))

@@ -1,0 +1,93 @@
+// What the check and the run answer for a sheet, and what they leave in their buffers.
+// Both buffers are lent full of 254, which is no kind code and no byte of a text: what still holds it was not written.
+use crate::print::decimal;
+use crate::print::put;
+use crate::print::small;
+use sheets::check::check;
+use sheets::run::run;
+ghost use lib.ListN.{length};
+ghost use Rattle.io.specs.Counts.{Counts};
+
+// How many bytes were written before the first that was not.
+fn written(s: &[u8]) -> usize
+    ensures { λ r. ⌜ Counts r (now (s .entry)) ⌝ }
+{
+    let mut i: usize = 0;
+    while i < s.len() {
+        if s[i] == 254 {
+            return i;
+        }
+        i += 1;
+    }
+    i
+}
+
+// Whether no byte from a place on was written.
+fn untouched(s: &[u8], from: usize) -> bool {
+    let mut i = from;
+    while i < s.len() {
+        if s[i] != 254 {
+            return false;
+        }
+        i += 1;
+    }
+    true
+}
+
+// The kind codes that were written, and `?` if they do not stand at the start.
+fn codes(kinds: &[u8]) {
+    let n = written(kinds);
+    let mut i: usize = 0;
+    while i < n {
+        put(b" ");
+        small(kinds[i]);
+        i += 1;
+    }
+    if !untouched(kinds, n) {
+        put(b" ?");
+    }
+}
+
+// The text that was written, and `?` if it does not stand at the start or the answer counts it wrong.
+fn text(out: &[u8], count: usize) {
+    let n = written(out);
+    put(&out[..n]);
+    if n != count {
+        put(b"?\n");
+    }
+    if !untouched(out, n) {
+        put(b"?\n");
+    }
+}
+
+// `check`, the number, the line and the kind codes.
+fn checked(s: &[u8]) {
+    let mut kinds = [254u8; 96];
+    let a = check(s, &mut kinds);
+    put(b"check ");
+    small(a.number);
+    put(b" ");
+    decimal(a.line);
+    codes(&kinds);
+    put(b"\n");
+}
+
+// `run`, the number, the line and the count of bytes, and on the next lines the text.
+fn ran(s: &[u8], readings: &[f64; 16]) {
+    let mut out = [254u8; 24576];
+    let a = run(s, readings, &mut out);
+    put(b"run ");
+    small(a.number);
+    put(b" ");
+    decimal(a.line);
+    put(b" ");
+    decimal(a.written);
+    put(b"\n");
+    text(&out, a.written);
+}
+
+// The answers for a sheet.
+pub fn sheet(s: &[u8], readings: &[f64; 16]) {
+    checked(s);
+    ran(s, readings);
+}
