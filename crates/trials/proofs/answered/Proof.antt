@@ -1,10 +1,10 @@
--- `tried::answered` is safe and ends. Assumes nothing.
+-- `trials::answered` is safe and ends. Assumes nothing.
 use native.Mathlib.Omega.{arith}
 use Prim.Native.Nat.{_+_, _*_}
 use Rattle.io.proofs.Counting.{front}
 use borrow.Author.Needs.{needs}
-use Rattle.tried.proofs.answered.Statement.{statement}
-use Rattle.tried.proofs.answered.Tie as tie
+use Rattle.trials.proofs.answered.Statement.{statement}
+use Rattle.trials.proofs.answered.Tie as tie
 
 readings-requires : tie.Need-readings-requires
 readings-requires c κs = search needs

@@ -1,9 +1,9 @@
--- `tried::cases::readings` is safe and ends. Assumes nothing.
+-- `trials::cases::readings` is safe and ends. Assumes nothing.
 use Prim.Native.Nat.{_-_, _≤_}
 use native.Mathlib.Omega.{arith}
 use borrow.Author.Needs.{needs}
-use Rattle.tried.proofs.cases.readings.Statement.{statement}
-use Rattle.tried.proofs.cases.readings.Tie as tie
+use Rattle.trials.proofs.cases.readings.Statement.{statement}
+use Rattle.trials.proofs.cases.readings.Tie as tie
 
 abbrev Inv-loop : tie.InvT-loop
 Inv-loop head values₀ i₀ values i = i ≤ 16

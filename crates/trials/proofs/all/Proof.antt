@@ -1,8 +1,8 @@
--- `tried::main` is safe and ends: the sheets left fall. Assumes nothing.
+-- `trials::all` is safe and ends: the sheets left fall. Assumes nothing.
 use native.Mathlib.Omega.{arith}
 use borrow.Author.Needs.{needs}
-use Rattle.tried.proofs.main.Statement.{statement}
-use Rattle.tried.proofs.main.Tie as tie
+use Rattle.trials.proofs.all.Statement.{statement}
+use Rattle.trials.proofs.all.Tie as tie
 
 abbrev Inv-loop : tie.InvT-loop
 Inv-loop left₀ left = Unit {0}
@@ -31,8 +31,8 @@ loop-again c = tt
 returns-2 : tie.Need-returns-2 Inv-loop μ-loop
 returns-2 c = tt
 
-pub main-spec : {M : Type 1} → statement M
-main-spec =
+pub all-spec : {M : Type 1} → statement M
+all-spec =
     tie.close
     (tie.spec
     Inv-loop

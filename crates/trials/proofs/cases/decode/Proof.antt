@@ -1,12 +1,12 @@
--- `tried::cases::decode` is safe and ends, and `count` is within `sheet` afterwards. Assumes nothing.
+-- `trials::cases::decode` is safe and ends, and `count` is within `sheet` afterwards. Assumes nothing.
 use Prim.Native.Nat.{_-_, _≤_}
 use mathlib.Core.Path.{_≡_, refl}
 use lib.ListN.{length, length-set}
 use Rattle.io.proofs.Counting.{counts}
 use native.Mathlib.Omega.{arith}
 use borrow.Author.Needs.{needs}
-use Rattle.tried.proofs.cases.decode.Statement.{statement}
-use Rattle.tried.proofs.cases.decode.Tie as tie
+use Rattle.trials.proofs.cases.decode.Statement.{statement}
+use Rattle.trials.proofs.cases.decode.Tie as tie
 
 abbrev Inv-loop : tie.InvT-loop
 Inv-loop digits sheet₀ count i₀ sheet i = (i ≤ count) × (length sheet ≡ length sheet₀)

@@ -1,9 +1,9 @@
--- `tried::report::codes` is safe and ends. Assumes nothing.
+-- `trials::report::codes` is safe and ends. Assumes nothing.
 use Prim.Native.Nat.{_-_, _≤_}
 use native.Mathlib.Omega.{arith}
 use borrow.Author.Needs.{needs}
-use Rattle.tried.proofs.report.codes.Statement.{statement}
-use Rattle.tried.proofs.report.codes.Tie as tie
+use Rattle.trials.proofs.report.codes.Statement.{statement}
+use Rattle.trials.proofs.report.codes.Tie as tie
 
 abbrev Inv-loop : tie.InvT-loop
 Inv-loop kinds n i₀ t4 t5 i = i ≤ n

@@ -1,9 +1,9 @@
--- `tried::report::untouched` is safe and ends. Assumes nothing.
+-- `trials::report::untouched` is safe and ends. Assumes nothing.
 use Prim.Native.Nat.{_-_}
 use lib.ListN.{length}
 use native.Mathlib.Omega.{arith}
-use Rattle.tried.proofs.report.untouched.Statement.{statement}
-use Rattle.tried.proofs.report.untouched.Tie as tie
+use Rattle.trials.proofs.report.untouched.Statement.{statement}
+use Rattle.trials.proofs.report.untouched.Tie as tie
 
 abbrev Inv-loop : tie.InvT-loop
 Inv-loop s from i₀ i = Unit {0}

@@ -1,10 +1,10 @@
--- `tried::report::written` is safe and ends, and answers a count within `s`. Assumes nothing.
+-- `trials::report::written` is safe and ends, and answers a count within `s`. Assumes nothing.
 use Prim.Native.Nat.{_-_, _≤_}
 use lib.ListN.{length}
 use Rattle.io.proofs.Counting.{counts}
 use native.Mathlib.Omega.{arith}
-use Rattle.tried.proofs.report.written.Statement.{statement}
-use Rattle.tried.proofs.report.written.Tie as tie
+use Rattle.trials.proofs.report.written.Statement.{statement}
+use Rattle.trials.proofs.report.written.Tie as tie
 
 abbrev Inv-loop : tie.InvT-loop
 Inv-loop s i₀ i = i ≤ length s

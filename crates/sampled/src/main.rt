@@ -1,0 +1,4 @@
+// Sheets of all sorts, made at random: their answers are those of the Rust run beside.
+fn main() {
+    trials::all();
+}
