@@ -1,0 +1,68 @@
+// What the comparison of sheets has come to: counts by refusal, by sort and by operator.
+use crate::beside::{Compared, Counts};
+use crate::make::Sort;
+use crate::sheet::words::Op;
+
+const NUMBERS: usize = 9;
+
+pub struct Tally {
+    // by the refusal's number, 0 for none
+    check: [u64; NUMBERS],
+    // by the sort, then by the number
+    run: [[u64; NUMBERS]; Sort::ALL.len()],
+    // the operators of admitted sheets, and those applied by the machine
+    pub met: Counts,
+    pub applied: Counts,
+    bytes: u64,
+    written: u64,
+    total: u64,
+    pub different: u64,
+}
+
+impl Tally {
+    pub fn new() -> Tally {
+        Tally {
+            check: [0; NUMBERS],
+            run: [[0; NUMBERS]; Sort::ALL.len()],
+            met: [0; 35],
+            applied: [0; 35],
+            bytes: 0,
+            written: 0,
+            total: 0,
+            different: 0,
+        }
+    }
+
+    pub fn add(&mut self, compared: &Compared) {
+        self.check[compared.check.number as usize] += 1;
+        self.run[compared.made.sort as usize][compared.run.number as usize] += 1;
+        self.bytes += compared.made.sheet.len() as u64;
+        self.written += compared.run.written;
+        self.total += 1;
+        self.different += !compared.differences.is_empty() as u64;
+    }
+
+    pub fn print(&self) {
+        println!("sheets by refusal       none        1        2        3        4        5        6        7        8");
+        println!("check             {}", row(&self.check));
+        let mut run = [0; NUMBERS];
+        self.run.iter().for_each(|sort| (0..NUMBERS).for_each(|k| run[k] += sort[k]));
+        println!("run               {}", row(&run));
+        for sort in Sort::ALL {
+            println!("   of {:<12}{}", format!("{sort:?}"), row(&self.run[sort as usize]));
+        }
+        println!("operators in admitted sheets, and applied by the machine");
+        for ops in Op::ALL.chunks(5) {
+            let cells = ops.iter().map(|&op| {
+                let word = op.text().escape_ascii().to_string();
+                format!("   {word:<8}{:>9}{:>9}", self.met[op as usize], self.applied[op as usize])
+            });
+            println!("{}", cells.collect::<String>());
+        }
+        println!("total: {} sheets of {} bytes, {} bytes written, {} different", self.total, self.bytes, self.written, self.different);
+    }
+}
+
+fn row(counts: &[u64]) -> String {
+    counts.iter().map(|count| format!(" {count:>8}")).collect()
+}

@@ -1,0 +1,73 @@
+// Bore sheets made from a seed, checked and run by the library beside the interpreter in compare/sheet.
+//   sheets [COUNT [SEED]]    COUNT sheets; status 1 if any answer or any lent byte differs
+//   sheets sample N FOLDER   writes N sheets to FOLDER/stdin, and the interpreter's answers to FOLDER/stdout
+#![allow(dead_code)]
+#[path = "sheet/beside.rs"]
+mod beside;
+#[path = "sheet/make/mod.rs"]
+mod make;
+mod random;
+mod sheet;
+#[path = "sheet/stored.rs"]
+mod stored;
+#[path = "sheet/tally.rs"]
+mod tally;
+
+use beside::Beside;
+use make::Maker;
+use random::Random;
+use std::process::exit;
+use tally::Tally;
+
+const COUNT: u64 = 20_000;
+const SEED: u64 = 20261115;
+const SHOWN: u64 = 5;
+
+// A generator of its own for each sheet, so that any of them can be made alone.
+fn random(seed: u64, at: u64) -> Random {
+    let start = seed.wrapping_add(at.wrapping_mul(0xd134_2543_de82_ef95));
+    Random(Random(start).bits())
+}
+
+fn compare(count: u64, seed: u64) -> bool {
+    let maker = Maker::new(false);
+    let mut beside = Beside::new();
+    let mut tally = Tally::new();
+    for at in 0..count {
+        let mut r = random(seed, at);
+        let made = maker.make(&mut r);
+        let compared = beside.compare(&mut r, made, &mut tally.applied, &mut tally.met);
+        if !compared.differences.is_empty() && tally.different < SHOWN {
+            println!("sheet {at} differs\n{compared}");
+        }
+        tally.add(&compared);
+    }
+    println!("seed {seed}");
+    tally.print();
+    tally.different == 0
+}
+
+fn usage() -> ! {
+    eprintln!("usage: sheets [COUNT [SEED]] | sheets sample N FOLDER");
+    exit(2)
+}
+
+fn whole(text: &str) -> u64 {
+    text.parse().unwrap_or_else(|_| usage())
+}
+
+fn main() {
+    let args: Vec<String> = std::env::args().skip(1).collect();
+    let args: Vec<&str> = args.iter().map(String::as_str).collect();
+    let same = match args[..] {
+        ["sample", n, folder] => {
+            stored::write(whole(n), SEED, folder).expect("the sample could not be written");
+            true
+        }
+        [] => compare(COUNT, SEED),
+        [count] => compare(whole(count), SEED),
+        [count, seed] => compare(whole(count), whole(seed)),
+        _ => usage(),
+    };
+    exit(if same { 0 } else { 1 });
+}
