@@ -1,4 +1,5 @@
 // Expressions of a wanted kind, from the top down. Kinds are document 01's codes; the rows are written out here again, for the maker alone.
+use super::Earth;
 use super::numerals::{self, Role};
 use crate::random::Random;
 
@@ -114,9 +115,7 @@ pub struct Writer<'a> {
     pub rows: &'a Rows,
     pub names: &'a [Name],
     pub mood: Mood,
-    // of the ellipsoid: radius, and 1 less the square of the eccentricity
-    pub radius: f64,
-    pub squash: f64,
+    pub earth: &'a Earth,
     pub text: String,
 }
 
@@ -150,7 +149,7 @@ impl Writer<'_> {
         let row = self.row(r, words, left, wish.max(least));
         self.text.push('(');
         self.text.push_str(row.word);
-        if row.word == "geo" && left >= 2 && r.below(8) > 0 {
+        if row.word == "geo" && left >= 2 && r.below(if self.mood == Mood::Turning { 2 } else { 8 }) > 0 {
             self.coordinates(r);
         } else {
             self.arguments(r, row, role, left, wish);
@@ -202,7 +201,7 @@ impl Writer<'_> {
         if what < 3 {
             let first = if role.is_angle() { 0 } else { 8 };
             self.text.push_str(&format!("r{}", first + r.below(8)));
-        } else if self.mood == Mood::Turning && r.below(3) == 0 {
+        } else if self.mood == Mood::Turning && r.below(6) == 0 {
             self.text.push_str(numerals::turning(r, role));
         } else {
             let x = numerals::ordinary(r, role);
@@ -212,23 +211,33 @@ impl Writer<'_> {
 
     // The three of a place on the ellipsoid or above it, or about where refusal 8 begins.
     fn coordinates(&mut self, r: &mut Random) {
-        let (latitude, longitude) = (r.between(-1.55, 1.55), r.between(-3.14, 3.14));
-        let n = [latitude.cos() * longitude.cos(), latitude.cos() * longitude.sin(), latitude.sin()];
-        let height = numerals::ordinary(r, Role::Height);
-        let centre = self.mood == Mood::Centre && r.below(3) > 0;
-        let half = self.radius / 2.0;
-        let xyz = match r.below(5) {
-            _ if !centre => n.map(|x| x * (self.radius + height)),
-            0 => [r.signed(half), 0.0, 0.0],
-            1 => [0.0, 0.0, r.signed(half / self.squash.sqrt())],
-            2 => [0; 3].map(|_| r.pick(&[0.0, -0.0, 1.0])),
-            _ => [n[0] * half, n[1] * half, n[2] * half / self.squash.sqrt()],
-        };
-        // to the last digit, or a digit beside it
-        for x in xyz {
-            let x = if centre && r.coin() { x + r.about(2) as f64 * 1e-6 } else { x };
-            let text = if centre { format!("{x:.6}") } else { numerals::text(r, x) };
+        if self.mood == Mood::Centre && r.below(3) > 0 {
+            return self.half_way(r);
+        }
+        let n = numerals::direction(r);
+        let out = self.earth.radius() + numerals::ordinary(r, Role::Height);
+        for x in n {
+            let text = numerals::text(r, x * out);
             self.text.push_str(&format!(" (m {text})"));
+        }
+    }
+
+    // By the readings that `numerals::centre` sets, or to the last digit and beside it.
+    fn half_way(&mut self, r: &mut Random) {
+        let half = self.earth.radius() / 2.0;
+        let polar = half / self.earth.squash().sqrt();
+        let n = numerals::direction(r);
+        let xyz = match r.below(8) {
+            0 => [r.signed(half), 0.0, 0.0],
+            1 => [0.0, 0.0, r.signed(polar)],
+            2 => [0; 3].map(|_| r.pick(&[0.0, -0.0, 1.0])),
+            3 | 4 => [n[0] * half, n[1] * half, n[2] * polar],
+            5 => return self.text.push_str(" (m r11) (m r12) (m r13)"),
+            _ => return self.text.push_str(" (m r8) (m r9) (m r10)"),
+        };
+        for x in xyz {
+            let x = if r.coin() { x + r.about(2) as f64 * 1e-6 } else { x };
+            self.text.push_str(&format!(" (m {x:.6})"));
         }
     }
 }

@@ -1,12 +1,15 @@
 // Sheets made from a seed: of the right kinds with ordinary values or with those at limits, and sheets broken in every way.
 mod bounds;
 mod broken;
+mod edges;
 mod expressions;
 mod numerals;
 
 use crate::random::Random;
 use crate::sheet::READINGS;
 use crate::sheet::words::Op;
+use reference::Length;
+use reference::ellipsoidal::Ellipsoid;
 use expressions::{F, KINDS, Kind, Mood, Name, Rows, Writer};
 use numerals::Role;
 
@@ -87,18 +90,18 @@ pub struct Maker {
 // Line 1 and what it says.
 struct Earth {
     line: String,
-    radius: f64,
-    inverse: f64,
+    ellipsoid: Ellipsoid,
 }
 
 impl Earth {
     fn of(radius: &str, inverse: &str) -> Earth {
-        Earth { line: format!("(ellipsoid {radius} {inverse})\n"), radius: radius.parse().unwrap(), inverse: inverse.parse().unwrap() }
+        let ellipsoid = Ellipsoid::new(Length::from_metres(radius.parse().unwrap()), inverse.parse().unwrap());
+        Earth { line: format!("(ellipsoid {radius} {inverse})\n"), ellipsoid }
     }
 
     fn admitted(r: &mut Random) -> Earth {
         match r.below(8) {
-            0..=3 => Earth { line: "(ellipsoid wgs84)\n".to_string(), radius: 6378137.0, inverse: 298.257223563 },
+            0..=3 => Earth { line: "(ellipsoid wgs84)\n".to_string(), ellipsoid: Ellipsoid::WGS84 },
             4 => Earth::of("6400000", "128"),
             5 => Earth::of(r.pick(&["1000000", "10000000", "6378137"]), r.pick(&["100", "1000", "298.257222"])),
             _ => {
@@ -120,9 +123,13 @@ impl Earth {
         Earth::of(radius, inverse)
     }
 
+    fn radius(&self) -> f64 {
+        self.ellipsoid.equatorial_radius.metres
+    }
+
+    // What q has and p has not.
     fn squash(&self) -> f64 {
-        let b = 1.0 - 1.0 / self.inverse;
-        b * b
+        1.0 - self.ellipsoid.eccentricity * self.ellipsoid.eccentricity
     }
 }
 
@@ -170,8 +177,11 @@ impl Maker {
         };
         for reading in &mut readings {
             if r.below(odd) == 0 {
-                *reading = numerals::wild(r, earth.radius);
+                *reading = numerals::wild(r);
             }
+        }
+        if sort == Sort::Centre {
+            numerals::centre(r, earth.radius(), earth.squash(), &mut readings);
         }
         let sheet = match sort {
             Sort::Names => self.broken(r, &earth, broken::name),
@@ -209,12 +219,16 @@ impl Maker {
         };
         let mut sheet = earth.line.clone();
         let mut names = Vec::new();
+        let mut fresh = false;
         for _ in 1..lines {
-            if r.below(3) == 0 {
-                sheet.push_str(&show(r, &names));
+            // half of what is given is shown at once
+            if (fresh && r.coin()) || r.below(6) == 0 {
+                sheet.push_str(&show(r, &names, fresh));
+                fresh = false;
             } else {
                 let depth = if sort == Sort::Deep { 11 } else { r.pick(&[0, 1, 1, 2, 2, 3, 4, 6]) };
                 self.given(r, earth, mood, depth, &mut names, &mut sheet);
+                fresh = true;
             }
         }
         sheet.into_bytes()
@@ -225,13 +239,18 @@ impl Maker {
         let word = word(r, &|word| names.iter().any(|name| name.word == word));
         let role = r.pick(&[Role::Turn, Role::Offset]);
         for turn in 0.. {
-            // shallower from turn to turn, and a number at last
-            let kind = if turn < 12 { kind(r) } else { 0 };
-            let wish = depth.saturating_sub(turn / 3);
-            let mut writer =
-                Writer { rows: &self.rows, names, mood, radius: earth.radius, squash: earth.squash(), text: format!("(let {word} ") };
-            writer.expression(r, kind, role, 11, wish);
-            let line = writer.text + ")\n";
+            let (kind, text) = match (mood, r.below(2)) {
+                (Mood::Turning, 0) => edges::expression(r, earth),
+                (Mood::Centre, 0) => edges::centre(r),
+                _ => {
+                    // shallower from turn to turn, and a number at last
+                    let kind = if turn < 12 { kind(r) } else { 0 };
+                    let mut writer = Writer { rows: &self.rows, names, mood, earth, text: String::new() };
+                    writer.expression(r, kind, role, 11, depth.saturating_sub(turn / 3));
+                    (kind, writer.text)
+                }
+            };
+            let line = format!("(let {word} {text})\n");
             if line.len() <= 200 {
                 sheet.push_str(&line);
                 names.push(Name { word, kind, role });
@@ -246,10 +265,11 @@ fn kind(r: &mut Random) -> Kind {
     if r.below(3) == 0 { F + r.below(4) as Kind } else { r.below(KINDS as u64) as Kind }
 }
 
-fn show(r: &mut Random, names: &[Name]) -> String {
-    if names.is_empty() || r.below(8) == 0 {
-        format!("(show r{})\n", r.below(READINGS as u64))
-    } else {
-        format!("(show {})\n", names[r.below(names.len() as u64) as usize].word)
+// The last name, or any.
+fn show(r: &mut Random, names: &[Name], last: bool) -> String {
+    if names.is_empty() || r.below(12) == 0 {
+        return format!("(show r{})\n", r.below(READINGS as u64));
     }
+    let at = if last { names.len() - 1 } else { r.below(names.len() as u64) as usize };
+    format!("(show {})\n", names[at].word)
 }

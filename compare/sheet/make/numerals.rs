@@ -1,5 +1,5 @@
 // Numbers as a sheet writes them, and readings of every sort of bits.
-use crate::random::{CLASSES, Random, number};
+use crate::random::{CLASSES, Random, number, power_of_two};
 use crate::sheet::READINGS;
 
 // What a number is for.
@@ -94,8 +94,8 @@ const EDGES: [f64; 12] = [
     1e8, 1e8, 1e8, 5e7, 3666.929888837269, 3666.929888837269, 90.0, 180.0, 360.0, f64::EPSILON, 2.0 * f64::EPSILON, 57735026.91896258,
 ];
 
-// A reading of any bits; `radius` is the ellipsoid's.
-pub fn wild(r: &mut Random, radius: f64) -> u64 {
+// A reading of any bits.
+pub fn wild(r: &mut Random) -> u64 {
     let x = match r.below(6) {
         0 => r.pick(&[0.0, -0.0]),
         1 | 2 => {
@@ -103,7 +103,10 @@ pub fn wild(r: &mut Random, radius: f64) -> u64 {
             let edge = r.signed(edge);
             r.beside(edge)
         }
-        3 => r.beside(radius / 2.0),
+        3 => {
+            let tiny = power_of_two(-(r.below(1000) as i64));
+            r.signed(tiny)
+        }
         4 => return r.bits(),
         _ => {
             let class = r.below(CLASSES);
@@ -111,4 +114,20 @@ pub fn wild(r: &mut Random, radius: f64) -> u64 {
         }
     };
     x.to_bits()
+}
+
+pub fn direction(r: &mut Random) -> [f64; 3] {
+    let (latitude, longitude) = (r.between(-1.55, 1.55), r.between(-3.14, 3.14));
+    [latitude.cos() * longitude.cos(), latitude.cos() * longitude.sin(), latitude.sin()]
+}
+
+// Two positions where p + q is 0.25 or one of the doubles beside it: anywhere, and on an axis.
+pub fn centre(r: &mut Random, radius: f64, squash: f64, readings: &mut [u64; READINGS]) {
+    let half = [radius / 2.0, radius / 2.0, radius / 2.0 / squash.sqrt()];
+    let n = direction(r);
+    let axis = r.below(3) as usize;
+    for k in 0..3 {
+        readings[8 + k] = r.beside(n[k] * half[k]).to_bits();
+        readings[11 + k] = if k == axis { r.beside(half[k]).to_bits() } else { 0 };
+    }
 }
