@@ -1,0 +1,3 @@
+pub mod ReadingSteps
+pub mod MessageSteps
+pub mod Written

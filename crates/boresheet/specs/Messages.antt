@@ -1,0 +1,28 @@
+-- The line that tells a refusal on standard error.
+use Prim.Native.Nat.{ℕ, zero, suc, _+_, _/_, _%_}
+use mathlib.Core.Bool.{Bool, true, false, cond}
+use mathlib.Core.List.{List, [], _∷_}
+use lib.Dec.{eqb, ltb}
+use Rattle.sheets.specs.Text.{ascii, _⌢_, lf}
+
+unfoldable pub decimalIf : Bool → List ℕ → List ℕ → List ℕ
+decimalIf true front last = last
+decimalIf false front last = front ⌢ last
+
+-- the decimal digits of n, at most k and one
+unfoldable pub decimal : ℕ → ℕ → List ℕ
+decimal zero n = (48 + n % 10) ∷ []
+decimal (suc k) n = decimalIf (ltb n 10) (decimal k (n / 10)) ((48 + n % 10) ∷ [])
+
+-- the name of a refusal
+unfoldable pub refusalName : ℕ → List ℕ
+refusalName n =
+    cond (eqb n 1) (ascii "size") (cond (eqb n 2) (ascii "lent") (cond (eqb n 3) (ascii "form") (cond (eqb n 4) (ascii "ellipsoid")
+    (cond (eqb n 5) (ascii "name") (cond (eqb n 6) (ascii "kind") (cond (eqb n 7) (ascii "limit") (cond (eqb n 8) (ascii "centre") [])))))))
+
+-- where 01 names a line
+unfoldable pub placeText : ℕ → List ℕ
+placeText line = cond (eqb line 0) [] (ascii " at line " ⌢ decimal 19 line)
+
+unfoldable pub refusalLine : ℕ → ℕ → List ℕ
+refusalLine number line = ascii "boresheet: refusal " ⌢ decimal 2 number ⌢ ascii " (" ⌢ refusalName number ⌢ ascii ")" ⌢ placeText line ⌢ lf

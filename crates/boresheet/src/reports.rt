@@ -1,0 +1,72 @@
+// What the program writes besides the text of a sheet.
+use crate::messages;
+use libc::STDERR_FILENO;
+
+fn put(text: &[u8]) {
+    io::write_all(STDERR_FILENO, text);
+}
+
+// A call that failed: on what, and why.
+pub fn fail(what: &[u8]) {
+    put(b"boresheet: ");
+    os::fail(what);
+}
+
+// A refusal of the run.
+pub fn refusal(number: u8, line: usize) {
+    let t = messages::refusal(number, line);
+    let bytes = t.bytes;
+    let n = t.size;
+    put(&bytes[..n]);
+}
+
+// The file of readings has a line that is none.
+pub fn bad_line(line: usize) {
+    put(b"boresheet: readings: line ");
+    io::print_decimal(STDERR_FILENO, line as u64);
+    put(b" is neither a number nor 16 hexadecimal digits\n");
+}
+
+pub fn too_short(lines: usize) {
+    put(b"boresheet: readings: the file ends after ");
+    io::print_decimal(STDERR_FILENO, lines as u64);
+    put(b" of 16 lines\n");
+}
+
+pub fn too_long() {
+    put(b"boresheet: readings: there are more than 16 lines\n");
+}
+
+// Whether an argument is `-h` or `--help`.
+pub fn asks_help(word: &[u8]) -> bool {
+    if word.len() == 2 {
+        return is_same(word, b"-h");
+    }
+    if word.len() == 6 {
+        return is_same(word, b"--help");
+    }
+    false
+}
+
+// Whether the bytes of two words of one length are the same.
+fn is_same(a: &[u8], b: &[u8]) -> bool {
+    let mut i: usize = 0;
+    while i < a.len() {
+        if i < b.len() {
+            if a[i] != b[i] {
+                return false;
+            }
+        }
+        i += 1;
+    }
+    true
+}
+
+// How the program is used.
+pub fn usage(fd: i32) {
+    io::write_all(fd, b"boresheet [READINGS] < SHEET\n");
+    io::write_all(fd, b"Checks and runs the bore sheet on standard input; its shows go to standard output.\n");
+    io::write_all(fd, b"A refusal is a line on standard error. There is no exit status.\n");
+    io::write_all(fd, b"READINGS is a file of 16 lines for r0 to r15, each ended by LF: a number as in a sheet,\n");
+    io::write_all(fd, b"or the 16 hexadecimal digits of a double. Without it all readings are 0.\n");
+}
