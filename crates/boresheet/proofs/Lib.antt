@@ -1,3 +1,4 @@
 pub mod ReadingSteps
 pub mod MessageSteps
 pub mod Written
+pub mod Spelled

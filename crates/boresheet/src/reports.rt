@@ -37,36 +37,52 @@ pub fn too_long() {
     put(b"boresheet: readings: there are more than 16 lines\n");
 }
 
-// Whether an argument is `-h` or `--help`.
-pub fn asks_help(word: &[u8]) -> bool {
-    if word.len() == 2 {
-        return is_same(word, b"-h");
-    }
-    if word.len() == 6 {
-        return is_same(word, b"--help");
-    }
-    false
-}
-
-// Whether the bytes of two words of one length are the same.
+// Whether two words are the same.
 fn is_same(a: &[u8], b: &[u8]) -> bool {
+    if a.len() != b.len() {
+        return false;
+    }
     let mut i: usize = 0;
     while i < a.len() {
-        if i < b.len() {
-            if a[i] != b[i] {
-                return false;
-            }
+        if a[i] != b[i] {
+            return false;
         }
         i += 1;
     }
     true
 }
 
+// Whether an argument is `-h` or `--help`.
+pub fn asks_help(word: &[u8]) -> bool {
+    if is_same(word, b"-h") {
+        return true;
+    }
+    is_same(word, b"--help")
+}
+
+fn write_line(fd: i32, text: &[u8]) {
+    io::write_all(fd, text);
+    io::write_all(fd, b"\n");
+}
+
 // How the program is used.
 pub fn usage(fd: i32) {
-    io::write_all(fd, b"boresheet [READINGS] < SHEET\n");
-    io::write_all(fd, b"Checks and runs the bore sheet on standard input; its shows go to standard output.\n");
-    io::write_all(fd, b"A refusal is a line on standard error. There is no exit status.\n");
-    io::write_all(fd, b"READINGS is a file of 16 lines for r0 to r15, each ended by LF: a number as in a sheet,\n");
-    io::write_all(fd, b"or the 16 hexadecimal digits of a double. Without it all readings are 0.\n");
+    write_line(fd, b"boresheet [READINGS] < SHEET");
+    write_line(
+        fd,
+        b"Checks and runs the bore sheet on standard input; its shows go to standard output.",
+    );
+    write_line(
+        fd,
+        b"A refusal is a line on standard error, as boresheet: refusal 8 (centre) at line 4.",
+    );
+    write_line(fd, b"The exit status says nothing.");
+    write_line(
+        fd,
+        b"READINGS is a file of 16 lines for r0 to r15, each ended by LF: a number as in a sheet,",
+    );
+    write_line(
+        fd,
+        b"or the 16 hexadecimal digits of a double. Without it all readings are 0.",
+    );
 }
