@@ -48,6 +48,7 @@ pub mod KindSteps
 pub mod LineKindSteps
 pub mod AdmitSteps
 pub mod EvalSteps
+pub mod BracketSteps
 pub mod OperandLaws
 pub mod LinePlaces
 pub mod EffectSteps

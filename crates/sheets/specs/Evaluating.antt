@@ -7,15 +7,18 @@ use lib.ListN.{getD}
 use lib.Ieee.{Float}
 use Rattle.frames.specs.declared.ellipsoid.Ellipsoid.{Ellipsoid}
 use Rattle.sheets.specs.declared.value.Value.{Value}
+use Rattle.sheets.specs.Text.{Word}
 use Rattle.sheets.specs.Trees.{Expr, Exprs}
+use Rattle.sheets.specs.Grammar.{IsWord}
+use Rattle.sheets.specs.Codes.{codeOf}
+use Rattle.sheets.specs.Table.{table}
+use Rattle.sheets.specs.Lookup.{find}
 use Rattle.sheets.specs.Reader.{got, readArgs, readLeaf, readExpr}
 use Rattle.sheets.specs.Names.{Known}
 use Rattle.sheets.specs.Refusals.{stop, refusalNumber}
-use Rattle.sheets.specs.Applied.{values}
-use Rattle.sheets.specs.Machine.{Out, goes, stops, sticks, eval, evals}
+use Rattle.sheets.specs.Machine.{Out, goes, stops, sticks, then, applyRow, eval, evals}
 use Rattle.sheets.specs.Operands.{Ready}
 use Rattle.sheets.specs.declared.eval.Evaluated.{Evaluated}
-use Rattle.sheets.specs.declared.eval.Gathered.{Gathered}
 
 -- the value and the place after the expression, or the refusal that stops the machine
 unfoldable pub evaluated : Out Value → ℕ → Evaluated
@@ -27,28 +30,15 @@ evaluated (sticks fs) n = Evaluated.Sticks
 pub record Evals (s : List ℕ) (at depth : ℕ) (e : Ellipsoid) (ps : Known Value) (r : Evaluated) : Type 0 where
   pub is : (x : Expr) (n : ℕ) → readExpr depth s at ≡ got x n → r ≡ evaluated (eval x e ps) n
 
--- ---- arguments
+-- ---- a bracket
 
--- the values gathered
-pub data Seen : Type 0 where
-  seen : List Value → ℕ → Seen
-  stopped : ℕ → Seen
-  stuck : Seen
+-- r is what the machine makes of a row for the word that has the code, over these values
+pub record RowHas (e : Ellipsoid) (code : ℕ) (vs : List Value) (n : ℕ) (r : Evaluated) : Type 0 where
+  pub is : (w : Word) → IsWord w → codeOf w ≡ code → r ≡ evaluated (applyRow e (find table w vs)) n
 
-unfoldable pub see : Gathered → Seen
-see (Gathered.Are a n) = seen (values a) n
-see (Gathered.Stops k) = stopped k
-see Gathered.Sticks = stuck
-
--- after the values vs
-unfoldable pub gathered : List Value → Out (List Value) → ℕ → Seen
-gathered vs (goes fs ys) n = seen (vs ++ ys) n
-gathered vs (stops fs r) n = stopped (refusalNumber (stop r))
-gathered vs (sticks fs) n = stuck
-
--- r is what the machine makes of the arguments at a place, at most `left`, after the values vs
-pub record Gathers (s : List ℕ) (at depth left : ℕ) (e : Ellipsoid) (ps : Known Value) (vs : List Value) (r : Gathered) : Type 0 where
-  pub is : (xs : Exprs) (n : ℕ) → readArgs (readExpr depth s) left s at ≡ got xs n → see r ≡ gathered vs (evals xs e ps) n
+-- r is what the machine makes of a bracket from a place on: of its arguments there, at most `left`, after the values vs, and then of its row
+pub record Bracket (s : List ℕ) (at depth left : ℕ) (e : Ellipsoid) (code : ℕ) (ps : Known Value) (vs : List Value) (r : Evaluated) : Type 0 where
+  pub is : (w : Word) → IsWord w → codeOf w ≡ code → (xs : Exprs) (n : ℕ) → readArgs (readExpr depth s) left s at ≡ got xs n → r ≡ evaluated (then (evals xs e ps) (λ us. applyRow e (find table w (vs ++ us)))) n
 
 -- ---- over operands: for the known words that they were found among; an expression stands after a space
 
@@ -59,5 +49,5 @@ pub record EvalsWith (s : List ℕ) (at depth : ℕ) (e : Ellipsoid) (ks : List 
 pub record LeafWith (s : List ℕ) (at : ℕ) (ks : List ℕ) (fs : List (List Float)) (r : Evaluated) : Type 0 where
   pub is : (ps : Known Value) → Ready s ks fs ps → (p : ℕ) → at ≡ p + 1 → getD s p 0 ≡ 32 → (e : Ellipsoid) (x : Expr) (n : ℕ) → readLeaf s at ≡ got x n → r ≡ evaluated (eval x e ps) n
 
-pub record GathersWith (s : List ℕ) (at depth left : ℕ) (e : Ellipsoid) (ks : List ℕ) (fs : List (List Float)) (vs : List Value) (r : Gathered) : Type 0 where
-  pub is : (ps : Known Value) → Ready s ks fs ps → Gathers s at depth left e ps vs r
+pub record BracketWith (s : List ℕ) (at depth left : ℕ) (e : Ellipsoid) (code : ℕ) (ks : List ℕ) (fs : List (List Float)) (vs : List Value) (r : Evaluated) : Type 0 where
+  pub is : (ps : Known Value) → Ready s ks fs ps → Bracket s at depth left e code ps vs r

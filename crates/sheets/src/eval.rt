@@ -15,19 +15,13 @@ use crate::value::Value;
 use frames::ellipsoid::Ellipsoid;
 ghost use mathlib.Core.Path.{_≡_};
 ghost use mathlib.Core.List.{[]};
+ghost use Rattle.sheets.specs.Applied.{values};
 ghost use Rattle.sheets.specs.Machine.{met};
-ghost use Rattle.sheets.specs.Evaluating.{evaluated, EvalsWith, LeafWith, GathersWith};
+ghost use Rattle.sheets.specs.Evaluating.{evaluated, EvalsWith, LeafWith, RowHas, BracketWith};
 
 // A value and the place after its expression; the number of the refusal that stops the machine, 7 or 8; or that the machine sticks.
 pub enum Evaluated {
     Is(Value, usize),
-    Stops(u8),
-    Sticks,
-}
-
-// The same of a bracket's arguments.
-pub enum Gathered {
-    Are(Args, usize),
     Stops(u8),
     Sticks,
 }
@@ -66,6 +60,18 @@ fn leaf(s: &[u8], at: usize, kinds: &[u8; 101], rows: &[[f64; 21]; 101]) -> Eval
     }
 }
 
+// The row for the word with this code over a bracket's arguments, which end at a place: refusal 8, the row, refusal 7.
+fn row_value(e: Ellipsoid, code: u64, a: Args, end: usize) -> Evaluated
+    ensures { λ r. ⌜ RowHas e code (values a) end r ⌝ }
+{
+    let r = apply(e, code, a);
+    match r {
+        Applied::Value(v) => tested(v, end),
+        Applied::NoRow => Evaluated::Sticks,
+        Applied::Centre => Evaluated::Stops(8),
+    }
+}
+
 // The expression at a place, with at most `depth` brackets in each other.
 pub fn eval(
     s: &[u8],
@@ -86,33 +92,22 @@ pub fn eval(
         let WordRead::Is(code, start) = w else {
             return Evaluated::Sticks;
         };
-        let g = gather(s, start, depth - 1, e, kinds, rows);
-        return match g {
-            Gathered::Sticks => Evaluated::Sticks,
-            Gathered::Stops(k) => Evaluated::Stops(k),
-            Gathered::Are(a, end) => {
-                let r = apply(e, code, a);
-                match r {
-                    Applied::Value(v) => tested(v, end),
-                    Applied::NoRow => Evaluated::Sticks,
-                    Applied::Centre => Evaluated::Stops(8),
-                }
-            }
-        };
+        return bracket(s, start, depth - 1, e, code, kinds, rows);
     }
     leaf(s, at, kinds, rows)
 }
 
-// The arguments at a place and the closing bracket.
-pub fn gather(
+// The bracket of the word with this code, from the place after its word: its arguments, the closing bracket, and then its row.
+pub fn bracket(
     s: &[u8],
     at: usize,
     depth: usize,
     e: Ellipsoid,
+    code: u64,
     kinds: &[u8; 101],
     rows: &[[f64; 21]; 101],
-) -> Gathered
-    ensures { λ r. ⌜ GathersWith (now (s .entry)) at depth 5 e (now (kinds .entry)) (now (rows .entry)) [] r ⌝ }
+) -> Evaluated
+    ensures { λ r. ⌜ BracketWith (now (s .entry)) at depth 5 e code (now (kinds .entry)) (now (rows .entry)) [] r ⌝ }
 {
     let mut i = at;
     let mut left: usize = 5;
@@ -120,16 +115,16 @@ pub fn gather(
     while 0 < left {
         let b = byte(s, i);
         if b == 41 {
-            return Gathered::Are(a, i + 1);
+            return row_value(e, code, a, i + 1);
         }
         if b == 32 {
             let r = eval(s, i + 1, depth, e, kinds, rows);
             match r {
                 Evaluated::Sticks => {
-                    return Gathered::Sticks;
+                    return Evaluated::Sticks;
                 }
                 Evaluated::Stops(k) => {
-                    return Gathered::Stops(k);
+                    return Evaluated::Stops(k);
                 }
                 Evaluated::Is(v, end) => {
                     a = push(a, v);
@@ -138,12 +133,12 @@ pub fn gather(
                 }
             }
         } else {
-            return Gathered::Sticks;
+            return Evaluated::Sticks;
         }
     }
     let b = byte(s, i);
     if b == 41 {
-        return Gathered::Are(a, i + 1);
+        return row_value(e, code, a, i + 1);
     }
-    Gathered::Sticks
+    Evaluated::Sticks
 }

@@ -18,13 +18,14 @@ fn bits(x: f64) -> u64
     }
 }
 
+const DIGITS: [u8; 16] = *b"0123456789abcdef";
+
 // 0 to 9, a to f.
 fn hex_digit(n: u64) -> u8
     requires { ⌜ n < 16 ⌝ }
     ensures { λ r. ⌜ r ≡ hexDigit n ⌝ }
 {
-    let d = n as u8;
-    if d < 10 { 48 + d } else { 87 + d }
+    DIGITS[n as usize]
 }
 
 // One byte.

@@ -1,24 +1,34 @@
--- `sheets::fields::hex_digit` meets its contract. Assumes nothing.
-use mathlib.Core.Path.{refl}
-use borrow.Author.Tests.{lt-ltb, le-ltb}
+-- `sheets::fields::hex_digit` meets its contract: the table lists the digits of 0 to 15. Assumes nothing.
+use Prim.Native.Nat.{ℕ, zero, suc, _+_, _<_}
+use native.Mathlib.Omega.{arith}
+use mathlib.Core.Path.{_≡_, refl, ap, _∙_}
+use mathlib.Core.List.{List, [], _∷_}
+use lib.ListN.{getD}
 use borrow.Author.Needs.{needs}
+use Rattle.sheets.specs.Output.{hexDigit}
 use Rattle.sheets.proofs.fields.hex_digit.Statement.{statement}
 use Rattle.sheets.proofs.fields.hex_digit.Tie as tie
 
-cast-d : tie.Need-cast-d
-cast-d c = search needs
+-- f of n numbers from i on
+abbrev listed : (ℕ → ℕ) → ℕ → ℕ → List ℕ
+listed f zero i = []
+listed f (suc n) i = f i ∷ listed f n (suc i)
 
-add-result : tie.Need-add-result
-add-result c = search needs
+listed-at : (f : ℕ → ℕ) (n i k : ℕ) → k < n → getD (listed f n i) k 0 ≡ f (i + k)
+listed-at f zero i k h = absurd (omega arith)
+listed-at f (suc n) i zero h = ap f (omega arith)
+listed-at f (suc n) i (suc k) h = listed-at f n (suc i) k (omega arith) ∙ ap f (omega arith)
 
-add-result-2 : tie.Need-add-result-2
-add-result-2 c = search needs
+digit-at : (k : ℕ) → k < 16 → getD (listed hexDigit 16 0) k 0 ≡ hexDigit k
+digit-at k h =
+    let z : 0 + k ≡ k = omega arith in
+    listed-at hexDigit 16 0 k h ∙ ap hexDigit z
+
+array-read-result : tie.Need-array-read-result
+array-read-result c = search needs
 
 returns : tie.Need-returns
-returns c = rw (lt-ltb _ _ (c .if1 .taken)) refl
-
-returns-2 : tie.Need-returns-2
-returns-2 c = rw (le-ltb _ _ (c .if1 .left)) refl
+returns c = digit-at (c .args .n) (search needs)
 
 pub hex-digit-spec : {M : Type 1} → statement M
-hex-digit-spec = tie.close (tie.spec cast-d add-result add-result-2 returns returns-2)
+hex-digit-spec = tie.close (tie.spec array-read-result returns)
