@@ -1,4 +1,5 @@
 pub mod PositionLaws
 pub mod FitLaws
 pub mod FrameLaws
+pub mod RadiusLaws
 pub mod Examples

@@ -7,7 +7,7 @@ use Rattle.numbers.specs.Arctangent.{asin, atan2}
 use Rattle.numbers.specs.Floats.{clampUnit, nearZero}
 use Rattle.numbers.specs.Angles.{angle, angleNeg, normalised}
 use Rattle.numbers.specs.Lengths.{metres, lengthNeg, lengthMul, lengthDiv}
-use Rattle.numbers.specs.Vec.{vec, norm, vecAdd, vecSub, vecMul, vecNeg}
+use Rattle.numbers.specs.Vec.{vec, norm, vecAdd, vecSub, vecMul, vecDiv, vecNeg}
 use Rattle.numbers.specs.declared.angle.Angle.{Angle}
 use Rattle.numbers.specs.declared.length.Length.{Length}
 use Rattle.numbers.specs.declared.vec3.Vec3.{Vec3}
@@ -77,6 +77,9 @@ localSub a b = localFromVec3 (a .orientation) (vecSub (localAsMetres a) (localAs
 -- a vector times a number, and a number times a vector
 abbrev pub localMul : LocalVector → Float → LocalVector
 localMul a k = localFromVec3 (a .orientation) (vecMul (localAsMetres a) k)
+
+abbrev pub localDiv : LocalVector → Float → LocalVector
+localDiv a k = localFromVec3 (a .orientation) (vecDiv (localAsMetres a) k)
 
 abbrev pub localNeg : LocalVector → LocalVector
 localNeg a = localFromVec3 (a .orientation) (vecNeg (localAsMetres a))

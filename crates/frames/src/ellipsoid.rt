@@ -1,14 +1,19 @@
-// An ellipsoid of revolution, and the conversion between geodetic and geocentric positions.
+// An ellipsoid of revolution, its radii, and the conversion between geodetic and geocentric positions.
 use crate::positions::GeocentricPosition;
 use crate::positions::GeodeticPosition;
 use crate::positions::NVector;
+use numbers::angle::Angle;
 use numbers::length::Length;
 use numbers::powers::powf_third;
+use numbers::powers::powf_three_halves;
 use numbers::root::sqrt;
+use numbers::sine::cos;
+use numbers::sine::sin;
 use numbers::vec3::Vec3;
 ghost use mathlib.Core.Path.{_≡_};
 ghost use Rattle.frames.specs.Ellipsoids as Ellipsoids;
 ghost use Rattle.frames.specs.Ellipsoids.{ellipsoid, geodeticToGeocentric, geocentricToGeodetic, pOf, qOf, uOf, kOf, geodeticBy};
+ghost use Rattle.frames.specs.Radii.{geocentricRadius, latitudeRadius, primeVerticalRadius, meridianRadius, meanRadius};
 
 pub struct Ellipsoid {
     pub equatorial_radius: Length,
@@ -69,6 +74,63 @@ impl Ellipsoid {
         ensures { λ r. ⌜ r ≡ self .flattening ⌝ }
     {
         self.flattening
+    }
+
+    pub fn geocentric_radius(self, latitude: Angle) -> Length
+        ensures { λ r. ⌜ r ≡ geocentricRadius self latitude ⌝ }
+    {
+        let cos_lat = cos(latitude.0);
+        let sin_lat = sin(latitude.0);
+        let a = self.equatorial_radius.0;
+        let b = self.polar_radius.0;
+        let f1 = a * a * cos_lat;
+        let f2 = b * b * sin_lat;
+        let f3 = a * cos_lat;
+        let f4 = b * sin_lat;
+        let r = sqrt(((f1 * f1) + (f2 * f2)) / ((f3 * f3) + (f4 * f4)));
+        Length(r)
+    }
+
+    pub fn latitude_radius(self, latitude: Angle) -> Length
+        ensures { λ r. ⌜ r ≡ latitudeRadius self latitude ⌝ }
+    {
+        if latitude.eq(Angle::QUARTER_CIRCLE) {
+            return Length::ZERO;
+        }
+        if latitude.eq(Angle::NEG_QUARTER_CIRCLE) {
+            return Length::ZERO;
+        }
+        let n = self.prime_vertical_radius(latitude);
+        n.mul(cos(latitude.0))
+    }
+
+    pub fn prime_vertical_radius(self, latitude: Angle) -> Length
+        ensures { λ r. ⌜ r ≡ primeVerticalRadius self latitude ⌝ }
+    {
+        let e2 = self.eccentricity * self.eccentricity;
+        let sin_lat = sin(latitude.0);
+        let sin_lat2 = sin_lat * sin_lat;
+        let r = self.equatorial_radius.0 / sqrt(1.0 - e2 * sin_lat2);
+        Length(r)
+    }
+
+    pub fn meridian_radius(self, latitude: Angle) -> Length
+        ensures { λ r. ⌜ r ≡ meridianRadius self latitude ⌝ }
+    {
+        let e2 = self.eccentricity * self.eccentricity;
+        let sin_lat = sin(latitude.0);
+        let sin_lat2 = sin_lat * sin_lat;
+        let r = self.equatorial_radius.0 * (1.0 - e2) / powf_three_halves(1.0 - e2 * sin_lat2);
+        Length(r)
+    }
+
+    pub fn mean_radius(self) -> Length
+        ensures { λ r. ⌜ r ≡ meanRadius self ⌝ }
+    {
+        let a = self.equatorial_radius;
+        let b = self.polar_radius;
+        let sum = a.mul(2.0).add(b);
+        sum.div_f64(3.0)
     }
 
     pub fn geodetic_to_geocentric_position(self, pos: GeodeticPosition) -> GeocentricPosition

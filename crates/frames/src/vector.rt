@@ -11,7 +11,7 @@ use numbers::sine::sin;
 use numbers::vec3::Vec3;
 ghost use mathlib.Core.Path.{_≡_};
 ghost use Rattle.frames.specs.Vectors as Vectors;
-ghost use Rattle.frames.specs.Vectors.{localVector, localFromMetres, localFromVec3, localAsMetres, localZero, localNeg, localAdd, localSub, localMul, fromAer, aerToNez, slantRange};
+ghost use Rattle.frames.specs.Vectors.{localVector, localFromMetres, localFromVec3, localAsMetres, localZero, localNeg, localAdd, localSub, localMul, localDiv, fromAer, aerToNez, slantRange};
 
 pub struct LocalVector {
     pub x: Length,
@@ -144,7 +144,7 @@ impl LocalVector {
         Vec3::new(self.x.0, self.y.0, self.z.0)
     }
 
-    // `+`, `-`, `*` and `-` of the Rust. A number times a vector is the vector times it.
+    // `+`, `-`, `*`, `/` and `-` of the Rust. A number times a vector is the vector times it.
     pub fn add(self, rhs: Self) -> Self
         ensures { λ r. ⌜ r ≡ localAdd self rhs ⌝ }
     {
@@ -169,6 +169,14 @@ impl LocalVector {
         let o = self.orientation;
         let a = self.as_metres();
         LocalVector::from_vec3_metres(o, a.mul(rhs))
+    }
+
+    pub fn div(self, rhs: f64) -> Self
+        ensures { λ r. ⌜ r ≡ localDiv self rhs ⌝ }
+    {
+        let o = self.orientation;
+        let a = self.as_metres();
+        LocalVector::from_vec3_metres(o, a.div(rhs))
     }
 
     pub fn neg(self) -> Self

@@ -8,8 +8,9 @@ use Rattle.numbers.specs.Root.{sqrt}
 use Rattle.numbers.specs.Sine.{sin, cos}
 use Rattle.numbers.specs.Floats.{pi, nearest}
 use Rattle.numbers.specs.Arctangent.{atan2, asin}
-use Rattle.numbers.specs.Powers.{powfThird}
+use Rattle.numbers.specs.Powers.{powfThird, powfThreeHalves}
 use Rattle.numbers.specs.Angles.{angle, normalised}
+use Rattle.numbers.specs.Vec.{raw, vecDiv}
 use Rattle.numbers.specs.Computed.{computed}
 
 abbrev bits : Float → ℕ
@@ -57,6 +58,15 @@ arcsine-one = refl
 third-of-one : bits (powfThird (num 1)) ≡ 0x3ff0_0000_0000_0000
 unfolding computed
 third-of-one = refl
+
+three-halves-of-four : bits (powfThreeHalves (num 4)) ≡ 0x4020_0000_0000_0000
+unfolding computed
+three-halves-of-four = refl
+
+-- a quotient of vectors has no minus zero: -0 / 3 is 0
+quotient-minus-zero : bits (vecDiv (raw (neg (num 0)) (num 1) (num 2)) (num 3) .x) ≡ 0
+unfolding computed
+quotient-minus-zero = refl
 
 -- `-0` is minus zero
 minus-nothing : bits (nearest true 0 1) ≡ 0x8000_0000_0000_0000

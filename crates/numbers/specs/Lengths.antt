@@ -1,7 +1,7 @@
 -- Lengths: a wrapped number, in metres. length.rs.
 use lib.Ieee as Ieee
 use lib.Ieee.{Float}
-use Rattle.numbers.specs.Ops.{_⊗_, _⊘_, num, pick}
+use Rattle.numbers.specs.Ops.{_⊕_, _⊗_, _⊘_, num, pick}
 use Rattle.numbers.specs.declared.length.Length.{Length}
 
 abbrev pub metres : Float → Length
@@ -11,6 +11,9 @@ metres x = record { 0 = x }
 abbrev pub lengthNeg : Length → Length
 lengthNeg a = metres (Ieee.neg (a .0))
 
+abbrev pub lengthAdd : Length → Length → Length
+lengthAdd a b = metres (a .0 ⊕ b .0)
+
 -- a length times a number, and a number times a length
 abbrev pub lengthMul : Length → Float → Length
 lengthMul a k = metres (a .0 ⊗ k)
@@ -18,6 +21,10 @@ lengthMul a k = metres (a .0 ⊗ k)
 -- a length by a length
 abbrev pub lengthDiv : Length → Length → Float
 lengthDiv a b = a .0 ⊘ b .0
+
+-- a length by a number
+abbrev pub lengthOver : Length → Float → Length
+lengthOver a k = metres (a .0 ⊘ k)
 
 -- `abs`, which negates whatever is not at least zero
 unfoldable pub lengthAbs : Length → Length

@@ -103,6 +103,10 @@ vecSub a b = vec (a .x ⊖ b .x) (a .y ⊖ b .y) (a .z ⊖ b .z)
 abbrev pub vecMul : Vec3 → Float → Vec3
 vecMul a k = vec (a .x ⊗ k) (a .y ⊗ k) (a .z ⊗ k)
 
+-- a vector by a number: three quotients, and not products with 1 / k
+abbrev pub vecDiv : Vec3 → Float → Vec3
+vecDiv a k = vec (a .x ⊘ k) (a .y ⊘ k) (a .z ⊘ k)
+
 abbrev pub vecNeg : Vec3 → Vec3
 vecNeg a = vec (Ieee.neg (a .x)) (Ieee.neg (a .y)) (Ieee.neg (a .z))
 

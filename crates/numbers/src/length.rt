@@ -1,6 +1,6 @@
 // A length: a wrapped number, in metres.
 ghost use mathlib.Core.Path.{_≡_};
-ghost use Rattle.numbers.specs.Lengths.{metres, lengthNeg, lengthMul, lengthDiv, lengthAbs};
+ghost use Rattle.numbers.specs.Lengths.{metres, lengthNeg, lengthAdd, lengthMul, lengthDiv, lengthOver, lengthAbs};
 
 pub struct Length(pub f64);
 
@@ -29,11 +29,17 @@ impl Length {
         }
     }
 
-    // `-`, `*` and `/` of the Rust. A number times a length is the length times it.
+    // `-`, `+`, `*` and `/` of the Rust. A number times a length is the length times it.
     pub fn neg(self) -> Self
         ensures { λ r. ⌜ r ≡ lengthNeg self ⌝ }
     {
         Length(-self.0)
+    }
+
+    pub fn add(self, rhs: Length) -> Self
+        ensures { λ r. ⌜ r ≡ lengthAdd self rhs ⌝ }
+    {
+        Length(self.0 + rhs.0)
     }
 
     pub fn mul(self, rhs: f64) -> Self
@@ -46,5 +52,12 @@ impl Length {
         ensures { λ r. ⌜ r ≡ lengthDiv self rhs ⌝ }
     {
         self.0 / rhs.0
+    }
+
+    // `/` by a number.
+    pub fn div_f64(self, rhs: f64) -> Self
+        ensures { λ r. ⌜ r ≡ lengthOver self rhs ⌝ }
+    {
+        Length(self.0 / rhs)
     }
 }

@@ -3,7 +3,7 @@ use crate::float::abs;
 use crate::root::sqrt;
 ghost use mathlib.Core.Path.{_≡_};
 ghost use Rattle.numbers.specs.Vec as Vec;
-ghost use Rattle.numbers.specs.Vec.{vec, newUnit, crossProd, crossProdUnit, dotProd, vecEq, orthogonalTo, stableCrossProd, stableCrossProdUnit, squaredNorm, vecAdd, vecSub, vecMul, vecNeg};
+ghost use Rattle.numbers.specs.Vec.{vec, newUnit, crossProd, crossProdUnit, dotProd, vecEq, orthogonalTo, stableCrossProd, stableCrossProdUnit, squaredNorm, vecAdd, vecSub, vecMul, vecDiv, vecNeg};
 
 pub struct Vec3 {
     pub x: f64,
@@ -208,7 +208,7 @@ impl Vec3 {
         }
     }
 
-    // `+`, `-`, `*`, `-` and `==` of the Rust. A number times a vector is the vector times it.
+    // `+`, `-`, `*`, `/`, `-` and `==` of the Rust. A number times a vector is the vector times it.
     pub fn add(self, rhs: Self) -> Self
         ensures { λ r. ⌜ r ≡ vecAdd self rhs ⌝ }
     {
@@ -225,6 +225,12 @@ impl Vec3 {
         ensures { λ r. ⌜ r ≡ vecMul self rhs ⌝ }
     {
         Vec3::new(self.x * rhs, self.y * rhs, self.z * rhs)
+    }
+
+    pub fn div(self, rhs: f64) -> Self
+        ensures { λ r. ⌜ r ≡ vecDiv self rhs ⌝ }
+    {
+        Vec3::new(self.x / rhs, self.y / rhs, self.z / rhs)
     }
 
     pub fn neg(self) -> Self
