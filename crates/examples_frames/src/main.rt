@@ -3,10 +3,14 @@
 mod gade;
 mod given;
 mod jord;
+mod nima;
 mod report;
 
 fn main() {
     jord::from_aer();
+    jord::radii();
+    jord::lengths();
+    nima::radii();
     gade::example_1();
     gade::example_2();
     gade::example_3();
