@@ -14,8 +14,9 @@ pub enum Part {
     Figure,
     Radius,
     Inverse,
-    // one number: an angle, a length, a factor
+    // one number: an angle, the same or a latitude, a length, a factor
     Turn,
+    Latitude,
     Metres,
     Factor,
     // latitude and longitude
@@ -110,6 +111,7 @@ impl Feeder {
                     Part::Radius => put(to, &[semi_axis(r, mood)]),
                     Part::Inverse => put(to, &[inverse(r, mood)]),
                     Part::Turn => put(to, &[angle(r, mood)]),
+                    Part::Latitude => put(to, &[if r.coin() { angle(r, mood) } else { lat_long(r, mood)[0] }]),
                     Part::Metres => put(to, &[length(r, mood)]),
                     Part::Factor => put(to, &[number(r, if mood == Mood::Earth { 10 } else { 4 })]),
                     Part::Horizontal => put(to, &lat_long(r, mood)),

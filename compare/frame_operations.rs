@@ -136,7 +136,7 @@ const fn made(name: &'static str, outputs: usize, parts: &'static [Part], answer
     op(name, inputs, outputs, Parts(parts), answer)
 }
 
-pub static OPERATIONS: [Operation; 54] = [
+pub static OPERATIONS: [Operation; 60] = [
     made("GeocentricPosition::new x y z", 3, &[Geocentric], |i, o| coordinates(GeocentricPosition::new(i.l(0), i.l(1), i.l(2)), o)),
     made("GeocentricPosition::from_metres", 3, &[Geocentric], |i, o| o.g(GeocentricPosition::from_metres(i.n(0), i.n(1), i.n(2)))),
     made("GeocentricPosition::from_vec3_metres", 3, &[Geocentric], |i, o| o.g(GeocentricPosition::from_vec3_metres(i.v(0)))),
@@ -213,6 +213,12 @@ pub static OPERATIONS: [Operation; 54] = [
     made("LocalFrame::destination_position", 3, &[Orientation, Frame, Vector], |i, o| {
         oriented!(i, O => o.g(i.f::<O>().destination_position(i.w(22))))
     }),
+    made("Ellipsoid::geocentric_radius", 1, &[Figure, Latitude], |i, o| o.l(i.e().geocentric_radius(i.a(4)))),
+    made("Ellipsoid::latitude_radius", 1, &[Figure, Latitude], |i, o| o.l(i.e().latitude_radius(i.a(4)))),
+    made("Ellipsoid::prime_vertical_radius", 1, &[Figure, Latitude], |i, o| o.l(i.e().prime_vertical_radius(i.a(4)))),
+    made("Ellipsoid::meridian_radius", 1, &[Figure, Latitude], |i, o| o.l(i.e().meridian_radius(i.a(4)))),
+    made("Ellipsoid::mean_radius", 1, &[Figure], |i, o| o.l(i.e().mean_radius())),
+    made("LocalVector::div", 4, &[Orientation, Vector, Factor], |i, o| oriented!(i, O => o.w(i.w::<O>(1) / i.n(4)))),
 ];
 
 fn coordinates(p: GeocentricPosition, o: &mut Outputs) {

@@ -19,7 +19,7 @@ fn decimal(negative: bool, digits: u64, tens: u64) -> f64 {
     if negative { -x } else { x }
 }
 
-pub static OPERATIONS: [Operation; 59] = [
+pub static OPERATIONS: [Operation; 62] = [
     op("sqrt", 1, 1, Root, |i, o| o.n(i.n(0).std_sqrt())),
     op("sin", 1, 1, Turn, |i, o| o.n(i.n(0).std_sin())),
     op("cos", 1, 1, Turn, |i, o| o.n(i.n(0).std_cos())),
@@ -79,6 +79,9 @@ pub static OPERATIONS: [Operation; 59] = [
     op("Length::from_metres as_metres", 1, 1, Number, |i, o| o.n(Length::from_metres(i.n(0)).as_metres())),
     op("sign_bit", 1, 1, Number, |i, o| o.b(i.n(0).is_sign_negative() && !i.n(0).is_nan())),
     op("Length::ZERO", 0, 1, Nothing, |_, o| o.l(Length::ZERO)),
+    op("Vec3::div", 4, 3, Vectors, |i, o| o.v(i.v(0) / i.n(3))),
+    op("Length::div_f64", 2, 1, Pair, |i, o| o.l(i.l(0) / i.n(1))),
+    op("Length::add", 2, 1, Pair, |i, o| o.l(i.l(0) + i.l(1))),
 ];
 
 fn parts(v: Vec3, o: &mut Outputs) {

@@ -12,8 +12,8 @@ use Rattle.numbers.specs.Arctangent.{atan2, asin}
 use Rattle.numbers.specs.Powers.{powfThird, powfThreeHalves}
 use Rattle.numbers.specs.Floats.{toRadians, toDegrees, abs, clampUnit, remainder, nearest, nearZero, near, nearOrBelow, nearOrAbove, signDigit, epsilon}
 use Rattle.numbers.specs.Angles.{angle, fullCircle, halfCircle, negHalfCircle, quarterCircle, negQuarterCircle, fromDegrees, asDegrees, angleAbs, angleNeg, angleEq, normalised, normalisedTo}
-use Rattle.numbers.specs.Lengths.{metres, lengthAbs, lengthNeg, lengthMul, lengthDiv}
-use Rattle.numbers.specs.Vec.{vec, zeroVec, unitX, unitY, unitZ, negUnitX, negUnitY, negUnitZ, newUnit, crossProd, crossProdUnit, dotProd, orthogonalTo, orthogonal, norm, stableCrossProdUnit, stableCrossProd, squaredNorm, unit, vecAdd, vecSub, vecMul, vecNeg, vecEq}
+use Rattle.numbers.specs.Lengths.{metres, lengthAbs, lengthNeg, lengthMul, lengthDiv, lengthOver, lengthAdd}
+use Rattle.numbers.specs.Vec.{vec, zeroVec, unitX, unitY, unitZ, negUnitX, negUnitY, negUnitZ, newUnit, crossProd, crossProdUnit, dotProd, orthogonalTo, orthogonal, norm, stableCrossProdUnit, stableCrossProd, squaredNorm, unit, vecAdd, vecSub, vecMul, vecDiv, vecNeg, vecEq}
 use Rattle.numbers.specs.Mat.{identity, transpose, matMul, matEq, vecMulMat}
 use Rattle.numbers.specs.declared.vec3.Vec3.{Vec3}
 use Rattle.numbers.specs.declared.mat33.Mat33.{Mat33}
@@ -59,6 +59,13 @@ vectorConstants =
 
 -- ---- the rows, the last first
 
+unfoldable pub quotientRows : List Row
+quotientRows =
+    (59 ⟼ λ a. vector (vecDiv (v a) (doubleAt a 3)))
+    ∷ (60 ⟼ λ a. number (lengthOver (metres (x a)) (y a) .0))
+    ∷ (61 ⟼ λ a. number (lengthAdd (metres (x a)) (metres (y a)) .0))
+    ∷ []
+
 unfoldable pub partRows : List Row
 partRows =
     (52 ⟼ λ a. vector (v a))
@@ -68,7 +75,7 @@ partRows =
     ∷ (56 ⟼ λ a. number (x a))
     ∷ (57 ⟼ λ a. signDigit (x a) ∷ [])
     ∷ (58 ⟼ λ a. number (num 0))
-    ∷ []
+    ∷ quotientRows
 
 unfoldable pub matrixRows : List Row
 matrixRows =

@@ -4,6 +4,7 @@ pub mod angles;
 pub mod floats;
 pub mod matrices;
 pub mod parts;
+pub mod quotients;
 pub mod table;
 pub mod vectors;
 pub mod words;

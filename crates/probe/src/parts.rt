@@ -1,4 +1,5 @@
 // Operations that make a value of its parts and take it apart again.
+use crate::quotients::quotients;
 use crate::words::double_at;
 use crate::words::matrix;
 use crate::words::matrix_at;
@@ -16,7 +17,7 @@ ghost use Rattle.probe.specs.Words.{padded};
 ghost use Rattle.probe.specs.Rows.{answered};
 ghost use Rattle.probe.specs.Table.{partRows};
 
-// Operations 52 to 58. All zeros where there is no such operation.
+// Operations 52 to 58, and all that follow.
 pub fn parts(op: u64, a: [u64; 32]) -> [u64; 24]
     ensures { λ r. ⌜ r ≡ padded (answered partRows op a) ⌝ }
 {
@@ -29,7 +30,7 @@ pub fn parts(op: u64, a: [u64; 32]) -> [u64; 24]
         56 => number(Length::from_metres(x).as_metres()),
         57 => one(float::sign_bit(x)),
         58 => number(Length::ZERO.0),
-        _ => [0u64; 24],
+        _ => quotients(op, a),
     }
 }
 

@@ -4,8 +4,9 @@ use mathlib.Core.List.{List, [], _∷_}
 use Rattle.numbers.specs.Ops.{_⊕_}
 use Rattle.frames.specs.Positions.{geocentric, geocentricFromMetres, geocentricFromVec3, geocentricAsMetres, nvector, geodetic, latLong, nvectorToLatlong, latlongToNvector}
 use Rattle.frames.specs.Ellipsoids.{wgs84, ellipsoid, geodeticToGeocentric, geocentricToGeodetic, pOf, qOf}
+use Rattle.frames.specs.Radii.{geocentricRadius, latitudeRadius, primeVerticalRadius, meridianRadius, meanRadius}
 use Rattle.frames.specs.Orientations.{isZUp, alignToZDown}
-use Rattle.frames.specs.Vectors.{localVector, localFromMetres, localFromVec3, localZero, localAsMetres, fromAer, slantRange, elevation, bearing, localAdd, localSub, localMul, localNeg, swap}
+use Rattle.frames.specs.Vectors.{localVector, localFromMetres, localFromVec3, localZero, localAsMetres, fromAer, slantRange, elevation, bearing, localAdd, localSub, localMul, localDiv, localNeg, swap}
 use Rattle.frames.specs.Rotations.{zyx2r, xyz2r, r2xyz, r2zyx}
 use Rattle.frames.specs.Frames.{enuFromGeocentric, enuFromGeodetic, nedFromGeocentric, nedFromGeodetic, bodyFromGeocentric, bodyFromGeodetic, wanderAzimuthFromGeocentric, wanderAzimuthFromGeodetic, lookingAtGeocentric, lookingAtGeodetic, rotateAroundZ, transform, frameOrigin, localVectorTo, destinationPosition}
 use Rattle.probe.specs.Rows.{Row, _⟼_}
@@ -13,6 +14,16 @@ use Rattle.probe.specs.Words.{doubleAt, vectorAt, matrixAt, number, truth, vect
 use Rattle.probe_frames.specs.Values.{angleAt, lengthAt, geocentricAt, geodeticAt, ellipsoidAt, orientationAt, localAt, frameAt, three, geocentricWords, geodeticWords, latLongWords, ellipsoidWords, xyzWords, zyxWords, partsWords, localWords, frameWords}
 
 -- ---- the rows, the last first
+
+unfoldable pub radiusRows : List Row
+radiusRows =
+    (54 ⟼ λ a. number (geocentricRadius (ellipsoidAt a) (angleAt a 4) .0))
+    ∷ (55 ⟼ λ a. number (latitudeRadius (ellipsoidAt a) (angleAt a 4) .0))
+    ∷ (56 ⟼ λ a. number (primeVerticalRadius (ellipsoidAt a) (angleAt a 4) .0))
+    ∷ (57 ⟼ λ a. number (meridianRadius (ellipsoidAt a) (angleAt a 4) .0))
+    ∷ (58 ⟼ λ a. number (meanRadius (ellipsoidAt a) .0))
+    ∷ (59 ⟼ λ a. localWords (localDiv (localAt a 1) (doubleAt a 4)))
+    ∷ []
 
 unfoldable pub ledRows : List Row
 ledRows =
@@ -23,7 +34,7 @@ ledRows =
     ∷ (51 ⟼ λ a. frameWords (transform (frameAt a) (localAt a 22) (angleAt a 25) (angleAt a 26) (angleAt a 27)))
     ∷ (52 ⟼ λ a. localWords (localVectorTo (frameAt a) (geocentricAt a 22)))
     ∷ (53 ⟼ λ a. geocentricWords (destinationPosition (frameAt a) (localAt a 22)))
-    ∷ []
+    ∷ radiusRows
 
 unfoldable pub turnedRows : List Row
 turnedRows =

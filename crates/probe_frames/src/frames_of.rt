@@ -6,6 +6,7 @@ use crate::inputs::geocentric;
 use crate::inputs::geodetic;
 use crate::inputs::local_frame;
 use crate::inputs::local_vector;
+use crate::radii_of::radii;
 use frames::frame::LocalFrame;
 use probe::words::matrix;
 ghost use mathlib.Core.Path.{_≡_};
@@ -85,7 +86,7 @@ fn looking_at_geodetic(a: [u64; 32]) -> LocalFrame
     LocalFrame::looking_at_geodetic(origin, target, angle(a, 12), ellipsoid(a))
 }
 
-// Operations 47 to 53. All zeros where there is no such operation.
+// Operations 47 to 53, and all that follow.
 fn led(op: u64, a: [u64; 32]) -> [u64; 24]
     ensures { λ r. ⌜ r ≡ padded (answered ledRows op a) ⌝ }
 {
@@ -97,7 +98,7 @@ fn led(op: u64, a: [u64; 32]) -> [u64; 24]
         51 => answers::local_frame(transformed(a)),
         52 => answers::local_vector(local_frame(a).local_vector_to(geocentric(a, 22))),
         53 => answers::geocentric(local_frame(a).destination_position(local_vector(a, 22))),
-        _ => [0u64; 24],
+        _ => radii(op, a),
     }
 }
 

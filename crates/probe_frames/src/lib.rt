@@ -6,6 +6,7 @@ pub mod ellipsoids_of;
 pub mod frames_of;
 pub mod inputs;
 pub mod positions_of;
+pub mod radii_of;
 pub mod rotations_of;
 pub mod table;
 pub mod vectors_of;

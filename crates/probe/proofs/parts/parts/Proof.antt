@@ -1,5 +1,5 @@
 -- `probe::parts::parts` answers the rows from 52 on. Assumes nothing.
-use mathlib.Core.Path.{sym, ap}
+use mathlib.Core.Path.{sym, ap, _∙_}
 use lib.Ieee.{ofBits}
 use borrow.Author.Needs.{needs}
 use Rattle.numbers.specs.Ops.{decimal}
@@ -67,6 +67,9 @@ one-requires c κs = search needs
 number-requires-3 : tie.Need-number-requires-3
 number-requires-3 c κs = search needs
 
+quotients-requires : tie.Need-quotients-requires
+quotients-requires c κs = search needs
+
 returns : tie.Need-returns
 unfolding answered partRows
 returns c = rw (c .before .before .before .match .keys1) (simp (c .vector .ensures, c .before .components .ensures, c .before .before .vector-at .ensures))
@@ -96,8 +99,8 @@ unfolding answered partRows decimal ofBits
 returns-7 c = rw (c .before .match .keys7) (simp (c .number3 .ensures))
 
 returns-8 : tie.Need-returns-8
-unfolding padded answered partRows
-returns-8 c = ap padded (sym (skipped 7 partRows _ _ (c .match .rest) .0))
+unfolding answered partRows
+returns-8 c = c .quotients .ensures ∙ ap padded (sym (skipped 7 partRows _ _ (c .before .match .rest) .0))
 
 pub parts-spec : {M : Type 1} → statement M
-parts-spec = tie.close (tie.spec double-at-requires vector-at-requires components-requires vector-requires matrix-at-requires rows-requires matrix-requires matrix-at-requires-2 made-requires matrix-requires-2 from-radians-requires as-radians-requires number-requires from-metres-requires as-metres-requires number-requires-2 sign-bit-requires one-requires number-requires-3 returns returns-2 returns-3 returns-4 returns-5 returns-6 returns-7 returns-8)
+parts-spec = tie.close (tie.spec double-at-requires vector-at-requires components-requires vector-requires matrix-at-requires rows-requires matrix-requires matrix-at-requires-2 made-requires matrix-requires-2 from-radians-requires as-radians-requires number-requires from-metres-requires as-metres-requires number-requires-2 sign-bit-requires one-requires number-requires-3 quotients-requires returns returns-2 returns-3 returns-4 returns-5 returns-6 returns-7 returns-8)

@@ -1,5 +1,5 @@
 -- `probe_frames::frames_of::led` answers the rows from 47 on. Assumes nothing.
-use mathlib.Core.Path.{sym, ap}
+use mathlib.Core.Path.{sym, ap, _∙_}
 use borrow.Author.Needs.{needs}
 use Rattle.probe.specs.Words.{padded}
 use Rattle.probe.specs.Rows.{answered}
@@ -77,6 +77,9 @@ destination-position-requires c κs = search needs
 geocentric-requires-3 : tie.Need-geocentric-requires-3
 geocentric-requires-3 c κs = search needs
 
+radii-requires : tie.Need-radii-requires
+radii-requires c κs = search needs
+
 returns : tie.Need-returns
 unfolding answered ledRows
 returns c = rw (c .before .before .before .before .match .keys1) (simp (c .local-frame2 .ensures, c .before .rotate-around-z .ensures, c .before .before .angle .ensures, c .before .before .before .local-frame .ensures))
@@ -106,8 +109,8 @@ unfolding answered ledRows
 returns-7 c = rw (c .before .before .before .before .match .keys7) (simp (c .geocentric3 .ensures, c .before .destination-position .ensures, c .before .before .local-vector2 .ensures, c .before .before .before .local-frame8 .ensures))
 
 returns-8 : tie.Need-returns-8
-unfolding padded answered ledRows
-returns-8 c = ap padded (sym (skipped 7 ledRows _ _ (c .match .rest) .0))
+unfolding answered ledRows
+returns-8 c = c .radii .ensures ∙ ap padded (sym (skipped 7 ledRows _ _ (c .before .match .rest) .0))
 
 pub led-spec : {M : Type 1} → statement M
-led-spec = tie.close (tie.spec local-frame-requires angle-requires rotate-around-z-requires local-frame-requires-2 local-frame-requires-3 local-to-earth-matrix-requires matrix-requires local-frame-requires-4 earth-to-local-matrix-requires matrix-requires-2 local-frame-requires-5 origin-requires geocentric-requires transformed-requires local-frame-requires-6 local-frame-requires-7 geocentric-requires-2 local-vector-to-requires local-vector-requires local-frame-requires-8 local-vector-requires-2 destination-position-requires geocentric-requires-3 returns returns-2 returns-3 returns-4 returns-5 returns-6 returns-7 returns-8)
+led-spec = tie.close (tie.spec local-frame-requires angle-requires rotate-around-z-requires local-frame-requires-2 local-frame-requires-3 local-to-earth-matrix-requires matrix-requires local-frame-requires-4 earth-to-local-matrix-requires matrix-requires-2 local-frame-requires-5 origin-requires geocentric-requires transformed-requires local-frame-requires-6 local-frame-requires-7 geocentric-requires-2 local-vector-to-requires local-vector-requires local-frame-requires-8 local-vector-requires-2 destination-position-requires geocentric-requires-3 radii-requires returns returns-2 returns-3 returns-4 returns-5 returns-6 returns-7 returns-8)
