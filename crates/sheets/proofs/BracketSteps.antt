@@ -129,8 +129,8 @@ module _ (s : List ℕ) (at b : ℕ) (eb : b ≡ getD s at 0) (depth left : ℕ)
         rest : (w : Word) (hs : List LocalFrame) (n : ℕ) (o : Out (List Value)) → q ≡ evaluated (thenᵒ o (λ ys. row w (us ++ ys))) n → q ≡ evaluated (thenᵒ (after hs (thenᵒ o (λ ys. goes [] (v ∷ ys)))) (λ ys. row w (vs ++ ys))) n
         rest w hs n (goes gs ys) p =
             p ∙ after-same gs (row w (us ++ ys)) n
-              ∙ ap (λ t. evaluated (row w t) n) (ap (λ t. t ++ ys) eus ∙ append-assoc vs (v ∷ []) ys)
-              ∙ sym (after-same _ (row w (vs ++ (v ∷ ys))) n)
+            ∙ ap (λ t. evaluated (row w t) n) (ap (λ t. t ++ ys) eus ∙ append-assoc vs (v ∷ []) ys)
+            ∙ sym (after-same _ (row w (vs ++ (v ∷ ys))) n)
         rest w hs n (stops gs c) p = p
         rest w hs n (sticks gs) p = p
 
@@ -140,6 +140,6 @@ module _ (s : List ℕ) (at b : ℕ) (eb : b ≡ getD s at 0) (depth left : ℕ)
             let iu : v ≡ u = cc in
             let im : end ≡ m = cc in
             rest w hs n (evals xs e ps) (hq .is w iw ek xs n (ap (λ t. readArgs (readExpr depth s) (left - 1) s t) im ∙ ef))
-              ∙ ap (λ t. evaluated (thenᵒ (after hs (thenᵒ (evals xs e ps) (λ ys. goes [] (t ∷ ys)))) (λ us. applyRow e (find table w (vs ++ us)))) n) iu
+            ∙ ap (λ t. evaluated (thenᵒ (after hs (thenᵒ (evals xs e ps) (λ ys. goes [] (t ∷ ys)))) (λ us. applyRow e (find table w (vs ++ us)))) n) iu
         go w iw ek xs m n ef (stops hs c) p = let z : _≡_ {A = ℕ} 0 1 = cc in absurd (omega arith)
         go w iw ek xs m n ef (sticks hs) p = let z : _≡_ {A = ℕ} 0 1 = cc in absurd (omega arith)
