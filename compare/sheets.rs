@@ -1,5 +1,6 @@
 // Bore sheets made from a seed, checked and run by the library beside the interpreter in compare/sheet.
 //   sheets [COUNT [SEED]]    COUNT sheets; status 1 if any answer or any lent byte differs
+//   sheets table             every operator with every list of up to three kinds, and of as many as it takes
 //   sheets sample N FOLDER   writes N sheets to FOLDER/stdin, and the interpreter's answers to FOLDER/stdout
 #![allow(dead_code)]
 #[path = "sheet/beside.rs"]
@@ -14,7 +15,7 @@ mod stored;
 mod tally;
 
 use beside::Beside;
-use make::Maker;
+use make::{Made, Maker, table};
 use random::Random;
 use std::process::exit;
 use tally::Tally;
@@ -29,26 +30,32 @@ fn random(seed: u64, at: u64) -> Random {
     Random(Random(start).bits())
 }
 
-fn compare(count: u64, seed: u64) -> bool {
-    let maker = Maker::new(false);
+fn compare(sheets: impl Iterator<Item = (Random, Made)>) -> bool {
     let mut beside = Beside::new();
     let mut tally = Tally::new();
-    for at in 0..count {
-        let mut r = random(seed, at);
-        let made = maker.make(&mut r);
+    for (at, (mut r, made)) in sheets.enumerate() {
         let compared = beside.compare(&mut r, made, &mut tally.applied, &mut tally.met);
         if !compared.differences.is_empty() && tally.different < SHOWN {
             println!("sheet {at} differs\n{compared}");
         }
         tally.add(&compared);
     }
-    println!("seed {seed}");
     tally.print();
     tally.different == 0
 }
 
+fn made(count: u64, seed: u64) -> bool {
+    println!("seed {seed}");
+    let maker = Maker::new(false);
+    compare((0..count).map(|at| {
+        let mut r = random(seed, at);
+        let made = maker.make(&mut r);
+        (r, made)
+    }))
+}
+
 fn usage() -> ! {
-    eprintln!("usage: sheets [COUNT [SEED]] | sheets sample N FOLDER");
+    eprintln!("usage: sheets [COUNT [SEED]] | sheets table | sheets sample N FOLDER");
     exit(2)
 }
 
@@ -64,9 +71,10 @@ fn main() {
             stored::write(whole(n), SEED, folder).expect("the sample could not be written");
             true
         }
-        [] => compare(COUNT, SEED),
-        [count] => compare(whole(count), SEED),
-        [count, seed] => compare(whole(count), whole(seed)),
+        ["table"] => compare(table::all().enumerate().map(|(at, made)| (random(SEED, at as u64), made))),
+        [] => made(COUNT, SEED),
+        [count] => made(whole(count), SEED),
+        [count, seed] => made(whole(count), whole(seed)),
         _ => usage(),
     };
     exit(if same { 0 } else { 1 });

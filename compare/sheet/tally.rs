@@ -48,7 +48,7 @@ impl Tally {
         let mut run = [0; NUMBERS];
         self.run.iter().for_each(|sort| (0..NUMBERS).for_each(|k| run[k] += sort[k]));
         println!("run               {}", row(&run));
-        for sort in Sort::ALL {
+        for sort in Sort::ALL.into_iter().filter(|&sort| self.run[sort as usize] != [0; NUMBERS]) {
             println!("   of {:<12}{}", format!("{sort:?}"), row(&self.run[sort as usize]));
         }
         println!("operators in admitted sheets, and applied by the machine");

@@ -5,7 +5,7 @@ use crate::random::Random;
 const FIRST: &str = "(ellipsoid wgs84)\n";
 
 pub fn sheet(r: &mut Random) -> Vec<u8> {
-    match r.below(16) {
+    match r.below(18) {
         0 => Vec::new(),
         1 => vec![r.pick(&[b'\n', b'(', b' ', 0, 255])],
         2 | 3 => bytes(r),
@@ -15,6 +15,8 @@ pub fn sheet(r: &mut Random) -> Vec<u8> {
         10 | 11 => letters(r),
         12 => digits(r),
         13 => names(r),
+        14 => wide(r),
+        15 => shown(r),
         _ => depth(r),
     }
 }
@@ -42,7 +44,7 @@ fn let_of(r: &mut Random, name: &str, bytes: usize) -> String {
 
 // About 16,384 bytes, of the right kinds; at times only the size is wrong.
 fn bytes(r: &mut Random) -> Vec<u8> {
-    let total = r.pick(&[16383, 16384, 16384, 16385, 16385, 16386, 16000]);
+    let total = r.pick(&[16384, 16385, 16383, 16385, 16384, 16386, 16000]);
     let lines = 84 + r.below(13) as usize - 1;
     let rest = total - FIRST.len();
     let mut sheet = FIRST.to_string();
@@ -152,4 +154,24 @@ fn depth(r: &mut Random) -> Vec<u8> {
     let around = depth - 1 - inside;
     let v = "(let v (venu (m 1) (m 2) (m 3)))\n";
     format!("{FIRST}{v}(let a {}{inner}{})\n(show a)\n", open.repeat(around), ")".repeat(around)).into_bytes()
+}
+
+// As many arguments as possible wait while the innermost is worked out, 11 to 13 deep.
+fn wide(r: &mut Random) -> Vec<u8> {
+    let given = "(let p (lla (deg 50) (deg 8) (m 100)))\n(let f (body (deg 1) (deg 2) (deg 3) p))\n(let v (vbody (m 1) (m 2) (m 3)))\n(let a (deg 4))\n";
+    let (open, inner, close, times) = match r.below(4) {
+        0 => ("(move f v a a (rz ", "f", "))", 5),
+        1 => ("(body a a a (origin ", "f", "))", 5),
+        2 => ("(foo 1 1 1 1 ", "1", ")", 10 + r.below(3) as usize),
+        _ => ("(foo ", "1", " 1 1 1 1)", 10 + r.below(3) as usize),
+    };
+    format!("{FIRST}{given}(let b {}{inner}{})\n(show b)\n", open.repeat(times), close.repeat(times)).into_bytes()
+}
+
+// About the longest text that a sheet can have.
+fn shown(r: &mut Random) -> Vec<u8> {
+    let name = r.pick(&["abcdefghijkl", "abcdefghijk", "z"]);
+    let count = r.pick(&[90, 93, 94]);
+    let frame = r.pick(&["(body (deg 1) (deg 2) (deg 3) (lla (deg 50) (deg 8) (m 100)))", "(wan (deg 1) (lla (deg 50) (deg 8) (m r15)))"]);
+    format!("{FIRST}(let {name} {frame})\n{}", format!("(show {name})\n").repeat(count)).into_bytes()
 }

@@ -71,7 +71,7 @@ fn replace(sheet: &mut Vec<u8>, place: Range<usize>, text: &[u8]) {
 
 // A word of some sort, perhaps one of the sheet's own.
 fn word(r: &mut Random, sheet: &[u8]) -> Vec<u8> {
-    match r.below(6) {
+    let mut word = match r.below(6) {
         0 => r.pick(Op::ALL).text().to_vec(),
         1 => format!("r{}", r.below(18)).into_bytes(),
         2 => r.pick(&WORDS).as_bytes().to_vec(),
@@ -80,7 +80,18 @@ fn word(r: &mut Random, sheet: &[u8]) -> Vec<u8> {
             let given = after(sheet, b"(let ");
             pick(r, &given).map_or(b"unknown".to_vec(), |place| sheet[place].to_vec())
         }
+    };
+    // or nearly one of these
+    match r.below(12) {
+        0 => word.push(r.pick(b"0a9z")),
+        1 if word.len() > 1 => word.truncate(word.len() - 1),
+        2 => {
+            let at = r.below(word.len() as u64) as usize;
+            word[at] = r.pick(b"azr019");
+        }
+        _ => (),
     }
+    word
 }
 
 pub fn name(r: &mut Random, sheet: &mut Vec<u8>) {

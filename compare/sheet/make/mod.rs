@@ -4,6 +4,7 @@ mod broken;
 mod edges;
 mod expressions;
 mod numerals;
+pub mod table;
 
 use crate::random::Random;
 use crate::sheet::READINGS;
@@ -26,11 +27,12 @@ pub enum Sort {
     Kinds,
     Bytes,
     Sizes,
+    Table,
     Noise,
 }
 
 impl Sort {
-    pub const ALL: [Sort; 12] = [
+    pub const ALL: [Sort; 13] = [
         Sort::Ordinary,
         Sort::Deep,
         Sort::Long,
@@ -42,6 +44,7 @@ impl Sort {
         Sort::Kinds,
         Sort::Bytes,
         Sort::Sizes,
+        Sort::Table,
         Sort::Noise,
     ];
 
@@ -49,8 +52,9 @@ impl Sort {
     fn share(self) -> u64 {
         match self {
             Sort::Ordinary => 20,
-            Sort::Deep | Sort::Limits | Sort::Readings => 12,
+            Sort::Deep | Sort::Limits | Sort::Readings => 11,
             Sort::Long | Sort::Noise => 2,
+            Sort::Table => 3,
             Sort::Centre | Sort::Sizes => 6,
             Sort::Ellipsoids => 4,
             Sort::Names | Sort::Kinds | Sort::Bytes => 8,
@@ -188,6 +192,7 @@ impl Maker {
             Sort::Kinds => self.broken(r, &earth, broken::kind),
             Sort::Bytes => self.broken(r, &earth, broken::byte),
             Sort::Sizes => bounds::sheet(r),
+            Sort::Table => table::any(r),
             Sort::Noise => broken::noise(r),
             _ => self.admitted(r, &earth, sort),
         };
