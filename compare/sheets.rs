@@ -2,9 +2,11 @@
 //   sheets [COUNT [SEED]]    COUNT sheets; status 1 if any answer or any lent byte differs
 //   sheets table             every operator with every list of up to three kinds, and of as many as it takes
 //   sheets sample N FOLDER   writes N sheets to FOLDER/stdin, and the interpreter's answers to FOLDER/stdout
+//   sheets text SHEET [READINGS]   the interpreter's text for a sheet in a file
 #![allow(dead_code)]
 #[path = "sheet/beside.rs"]
 mod beside;
+mod library;
 #[path = "sheet/make/mod.rs"]
 mod make;
 mod random;
@@ -13,6 +15,8 @@ mod sheet;
 mod stored;
 #[path = "sheet/tally.rs"]
 mod tally;
+#[path = "sheet/text.rs"]
+mod text;
 
 use beside::Beside;
 use make::{Made, Maker, table};
@@ -55,7 +59,7 @@ fn made(count: u64, seed: u64) -> bool {
 }
 
 fn usage() -> ! {
-    eprintln!("usage: sheets [COUNT [SEED]] | sheets table | sheets sample N FOLDER");
+    eprintln!("usage: sheets [COUNT [SEED]] | sheets table | sheets sample N FOLDER | sheets text SHEET [READINGS]");
     exit(2)
 }
 
@@ -69,6 +73,14 @@ fn main() {
     let same = match args[..] {
         ["sample", n, folder] => {
             stored::write(whole(n), SEED, folder).expect("the sample could not be written");
+            true
+        }
+        ["text", sheet] => {
+            text::print(sheet, None);
+            true
+        }
+        ["text", sheet, readings] => {
+            text::print(sheet, Some(readings));
             true
         }
         ["table"] => compare(table::all().enumerate().map(|(at, made)| (random(SEED, at as u64), made))),

@@ -1,24 +1,11 @@
 // One sheet by the library and by the interpreter: the answers, and every byte that was lent or lies beside it.
+use crate::library::{boresheet_check, boresheet_run};
 use crate::make::{Made, Sort};
 use crate::random::Random;
 use crate::sheet::words::Op;
 use crate::sheet::{LINES, OUTPUT, READINGS, check_with, run_with};
 use std::fmt::{Display, Formatter, Result};
 use std::slice;
-
-extern "C" {
-    fn boresheet_check(sheet: *const u8, sheet_len: usize, kinds: *mut u8, kinds_len: usize, line: *mut u32) -> u32;
-    fn boresheet_run(
-        sheet: *const u8,
-        sheet_len: usize,
-        readings: *const f64,
-        readings_len: usize,
-        out: *mut u8,
-        out_len: usize,
-        line: *mut u32,
-        written: *mut u64,
-    ) -> u32;
-}
 
 const GUARD: usize = 40;
 

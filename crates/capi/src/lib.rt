@@ -27,11 +27,11 @@ pub extern "C" fn boresheet_run(
 ) -> u32
     ensures { λ r. ⌜ (r ≡ runAnswer (now (sheet .entry)) (now (readings .entry)) (now (out .entry)) .number) × (now (line .exit) ≡ runAnswer (now (sheet .entry)) (now (readings .entry)) (now (out .entry)) .line) × (now (written .exit) ≡ runAnswer (now (sheet .entry)) (now (readings .entry)) (now (out .entry)) .written) × (now (out .exit) ≡ outAfter (now (sheet .entry)) (now (readings .entry)) (now (out .entry))) ⌝ }
 {
-    let a = run(sheet, readings, out);
-    let at = a.line;
+    let r = run(sheet, readings, out);
+    let at = r.line;
     *line = at as u32;
-    let count = a.written;
+    let count = r.written;
     *written = count as u64;
-    let number = a.number;
+    let number = r.number;
     number as u32
 }
