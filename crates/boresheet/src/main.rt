@@ -67,6 +67,7 @@ fn run_file(name: &[u8]) {
     let f = fill(fd, &mut file);
     if f.failed {
         reports::fail(name);
+        libc::close(fd);
         return;
     }
     libc::close(fd);

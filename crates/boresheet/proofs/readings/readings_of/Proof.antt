@@ -24,7 +24,9 @@ no-readings-requires : tie.Need-no-readings-requires Inv-loop μ-loop
 no-readings-requires c κs = search needs
 
 returns : tie.Need-returns Inv-loop μ-loop
-returns c = file-short _ _ _ _ (c .before .before .before .loop .inv .1) (c .before .before .before .loop .inv .0) _ (c .before .before .before .loop .inv .2) _ (c .before .before .loop-test .taken) (c .before .if1 .taken) (c .no-readings .ensures)
+returns c =
+    let v = c .before .before .before .loop .inv in
+    file-short _ _ _ _ (v .1) (v .0) _ (v .2) _ (c .before .before .loop-test .taken) (c .before .if1 .taken) (c .no-readings .ensures)
 
 reading-requires : tie.Need-reading-requires Inv-loop μ-loop
 reading-requires c κs = search needs
@@ -42,7 +44,9 @@ no-readings-requires-2 : tie.Need-no-readings-requires-2 Inv-loop μ-loop
 no-readings-requires-2 c κs = search needs
 
 returns-2 : tie.Need-returns-2 Inv-loop μ-loop
-returns-2 c = file-bad _ _ _ _ (c .before .before .before .before .before .before .loop .inv .1) (c .before .before .before .before .before .before .loop .inv .0) _ (c .before .before .before .before .before .before .loop .inv .2) (c .before .before .before .before .before .loop-test .taken) (c .before .before .before .before .if1 .left) _ (c .before .before .before .reading .ensures) (c .before .enum-told .given .1) _ (c .no-readings2 .ensures)
+returns-2 c =
+    let v = c .before .before .before .before .before .before .loop .inv in
+    file-bad _ _ _ _ (v .1) (v .0) _ (v .2) (c .before .before .before .before .before .loop-test .taken) (c .before .before .before .before .if1 .left) _ (c .before .before .before .reading .ensures) (c .before .enum-told .given .1) _ (c .no-readings2 .ensures)
 
 mul-values : tie.Need-mul-values Inv-loop μ-loop
 mul-values c = omega arith
@@ -57,16 +61,22 @@ loop-less : tie.Need-loop-less Inv-loop μ-loop
 loop-less c = omega arith
 
 loop-again : tie.Need-loop-again Inv-loop μ-loop
-loop-again c = (omega arith, simp length-set (c .before .before .before .before .before .before .loop .inv .1), file-turn _ _ _ _ (c .before .before .before .before .before .before .loop .inv .1) (c .before .before .before .before .before .before .loop .inv .0) _ (c .before .before .before .before .before .before .loop .inv .2) (c .before .before .before .before .before .loop-test .taken) (c .before .before .before .before .if1 .left) _ (c .before .before .before .reading .ensures) _ _ (c .before .r .given .1))
+loop-again c =
+    let v = c .before .before .before .before .before .before .loop .inv in
+    (omega arith, simp length-set (v .1), file-turn _ _ _ _ (v .1) (v .0) _ (v .2) (c .before .before .before .before .before .loop-test .taken) (c .before .before .before .before .if1 .left) _ (c .before .before .before .reading .ensures) _ _ (c .before .r .given .1))
 
 no-readings-requires-3 : tie.Need-no-readings-requires-3 Inv-loop μ-loop
 no-readings-requires-3 c κs = search needs
 
 returns-3 : tie.Need-returns-3 Inv-loop μ-loop
-returns-3 c = file-long _ _ _ _ (c .before .before .before .loop .inv .1) (c .before .before .before .loop .inv .0) _ (c .before .before .before .loop .inv .2) _ (c .before .before .loop-test .left) (c .before .if2 .taken) (c .no-readings3 .ensures)
+returns-3 c =
+    let v = c .before .before .before .loop .inv in
+    file-long _ _ _ _ (v .1) (v .0) _ (v .2) _ (c .before .before .loop-test .left) (c .before .if2 .taken) (c .no-readings3 .ensures)
 
 returns-4 : tie.Need-returns-4 Inv-loop μ-loop
-returns-4 c = file-all _ _ _ _ (c .before .before .loop .inv .1) (c .before .before .loop .inv .0) _ (c .before .before .loop .inv .2) (c .before .loop-test .left) (c .if2 .left)
+returns-4 c =
+    let v = c .before .before .loop .inv in
+    file-all _ _ _ _ (v .1) (v .0) _ (v .2) (c .before .loop-test .left) (c .if2 .left)
 
 pub readings-of-spec : {M : Type 1} → statement M
 readings-of-spec =
