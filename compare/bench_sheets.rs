@@ -1,6 +1,7 @@
 // Times the check and the run of whole sheets, the library's through its C functions beside the Rust interpreter's, on the same sheets in one run.
 //   bench_sheets             the tables
 //   bench_sheets profile K   200 runs of the sheet of 96 lines of sort K, from 0, by the library alone, for a profiler
+#[path = "../examples/rust/boresheet.rs"]
 mod library;
 #[allow(dead_code)]
 mod sheet;

@@ -6,6 +6,7 @@
 #![allow(dead_code)]
 #[path = "sheet/beside.rs"]
 mod beside;
+#[path = "../examples/rust/boresheet.rs"]
 mod library;
 #[path = "sheet/make/mod.rs"]
 mod make;

@@ -1,5 +1,5 @@
-// The library's C functions, and the same over slices of any length.
-extern "C" {
+// include/boresheet.h in Rust: the C functions, and the same over slices of any length.
+unsafe extern "C" {
     pub fn boresheet_check(sheet: *const u8, sheet_len: usize, kinds: *mut u8, kinds_len: usize, line: *mut u32) -> u32;
     pub fn boresheet_run(
         sheet: *const u8,
@@ -13,7 +13,7 @@ extern "C" {
     ) -> u32;
 }
 
-// A line or count that is not set would show.
+// What is not set would show.
 const UNSET: u32 = 0xa5a5_a5a5;
 
 // Number and line.
