@@ -12,6 +12,8 @@ import struct
 import sys
 from pathlib import Path
 
+from tried_table import NO_ROWS, TABLE
+
 KINDS = "n a l g d venu vned vbody vwan fenu fned fbody fwan".split()
 POLE = "(ellipsoid 6400000 128)"
 WGS84 = "(ellipsoid wgs84)"
@@ -227,88 +229,6 @@ def operators():
         ("(scale v 2)", (2.0, 4.0, 6.0)),
     ):
         yield passes(begin + ["(let x %s)" % made, "(show x)"], "venu venu venu venu", shown("x", "venu", *result))
-
-
-# The kind table: the expression, and its kind.
-TABLE = [
-    ("deg", "(deg 1)", "a"),
-    ("m", "(m 1)", "l"),
-    ("lla", "(lla xdeg xdeg xm)", "d"),
-    ("togeo", "(togeo xlla)", "g"),
-    ("tolla", "(tolla xtogeo)", "d"),
-    ("geo", "(geo xm xm xm)", "g"),
-    ("venu", "(venu xm xm xm)", "venu"),
-    ("vned", "(vned xm xm xm)", "vned"),
-    ("vbody", "(vbody xm xm xm)", "vbody"),
-    ("vwan", "(vwan xm xm xm)", "vwan"),
-    ("aenu", "(aenu xdeg xdeg xm)", "venu"),
-    ("aned", "(aned xdeg xdeg xm)", "vned"),
-    ("abody", "(abody xdeg xdeg xm)", "vbody"),
-    ("awan", "(awan xdeg xdeg xm)", "vwan"),
-    ("enu", "(enu xlla)", "fenu"),
-    ("enug", "(enu xtogeo)", "fenu"),
-    ("ned", "(ned xlla)", "fned"),
-    ("nedg", "(ned xtogeo)", "fned"),
-    ("wan", "(wan xdeg xlla)", "fwan"),
-    ("wang", "(wan xdeg xtogeo)", "fwan"),
-    ("body", "(body xdeg xdeg xdeg xlla)", "fbody"),
-    ("bodyg", "(body xdeg xdeg xdeg xtogeo)", "fbody"),
-    ("far", "(lla (deg 2) (deg 3) (m 4))", "d"),
-    ("look", "(look xlla xfar xdeg)", "fbody"),
-    ("lookg", "(look xtogeo xgeo xdeg)", "fbody"),
-    ("turn", "(turn xenu xdeg)", "fwan"),
-    ("turnn", "(turn xned xdeg)", "fwan"),
-    ("turnw", "(turn xwan xdeg)", "fwan"),
-    ("move", "(move xenu xvenu xdeg xdeg xdeg)", "fbody"),
-    ("moven", "(move xned xvned xdeg xdeg xdeg)", "fbody"),
-    ("moveb", "(move xbody xvbody xdeg xdeg xdeg)", "fbody"),
-    ("movew", "(move xwan xvwan xdeg xdeg xdeg)", "fbody"),
-    ("to", "(to xenu xgeo)", "venu"),
-    ("ton", "(to xned xgeo)", "vned"),
-    ("tob", "(to xbody xgeo)", "vbody"),
-    ("tow", "(to xwan xgeo)", "vwan"),
-    ("at", "(at xenu xvenu)", "g"),
-    ("atn", "(at xned xvned)", "g"),
-    ("atb", "(at xbody xvbody)", "g"),
-    ("atw", "(at xwan xvwan)", "g"),
-    ("neg", "(neg xvenu)", "venu"),
-    ("negn", "(neg xvned)", "vned"),
-    ("add", "(add xvbody xabody)", "vbody"),
-    ("sub", "(sub xvwan xawan)", "vwan"),
-    ("scale", "(scale xvned 2)", "vned"),
-    ("swap", "(swap xvenu)", "vned"),
-    ("swapn", "(swap xvned)", "venu"),
-    ("bearing", "(bearing xvwan)", "a"),
-    ("elev", "(elev xvbody)", "a"),
-    ("range", "(range xvned)", "l"),
-    ("origin", "(origin xenu)", "g"),
-    ("originb", "(origin xbody)", "g"),
-    ("rz", "(rz xned)", "a"),
-    ("ry", "(ry xwan)", "a"),
-    ("rx", "(rx xbody)", "a"),
-]
-
-# Some that are no rows.
-NO_ROWS = [
-    "(turn xbody xdeg)",
-    "(look xlla xgeo xdeg)",
-    "(look xgeo xlla xdeg)",
-    "(swap xvwan)",
-    "(add xvenu xvned)",
-    "(to xenu xlla)",
-    "(at xenu xvned)",
-    "(move xenu xvned xdeg xdeg xdeg)",
-    "(scale xvenu xm)",
-    "(togeo xgeo)",
-    "(tolla xlla)",
-    "(geo xdeg xdeg xm)",
-    "(lla xm xm xm)",
-    "(m xm)",
-    "(deg)",
-    "(bearing xenu)",
-    "(origin xvenu)",
-    "(rz xvenu)",
-]
 
 
 def table():
