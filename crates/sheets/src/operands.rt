@@ -17,7 +17,7 @@ ghost use mathlib.Core.Path.{_≡_};
 ghost use Prim.Native.Nat.{_<_};
 ghost use lib.ListN.{set};
 ghost use Rattle.sheets.specs.Kinds.{kindOf, kindCode};
-ghost use Rattle.sheets.specs.Operands.{vectorIn, frameIn, unpacked, operand, short, floatsOf, codeFor, rowsWith};
+ghost use Rattle.sheets.specs.Operands.{vecAt, vectorIn, frameIn, unpacked, operand, short, floatsOf, codeFor, rowsWith};
 
 // What a word stands for.
 pub enum Found {
@@ -36,49 +36,65 @@ fn vector_in(f: [f64; 21], o: Orientation) -> Found
     }))
 }
 
+// The direction matrix of a frame's row.
+fn dir_in(f: [f64; 21]) -> Mat33
+    ensures { λ r. ⌜ r ≡ record { r0 = vecAt f 3 4 5; r1 = vecAt f 6 7 8; r2 = vecAt f 9 10 11 } ⌝ }
+{
+    Mat33 {
+        r0: Vec3 {
+            x: f[3],
+            y: f[4],
+            z: f[5],
+        },
+        r1: Vec3 {
+            x: f[6],
+            y: f[7],
+            z: f[8],
+        },
+        r2: Vec3 {
+            x: f[9],
+            y: f[10],
+            z: f[11],
+        },
+    }
+}
+
+// Its inverse matrix.
+fn inv_in(f: [f64; 21]) -> Mat33
+    ensures { λ r. ⌜ r ≡ record { r0 = vecAt f 12 13 14; r1 = vecAt f 15 16 17; r2 = vecAt f 18 19 20 } ⌝ }
+{
+    Mat33 {
+        r0: Vec3 {
+            x: f[12],
+            y: f[13],
+            z: f[14],
+        },
+        r1: Vec3 {
+            x: f[15],
+            y: f[16],
+            z: f[17],
+        },
+        r2: Vec3 {
+            x: f[18],
+            y: f[19],
+            z: f[20],
+        },
+    }
+}
+
 fn frame_in(f: [f64; 21], o: Orientation) -> Found
     ensures { λ r. ⌜ r ≡ frameIn f o ⌝ }
 {
+    let dir_rm = dir_in(f);
+    let inv_rm = inv_in(f);
     Found::Value(Value::Frame(LocalFrame {
         origin: Vec3 {
             x: f[0],
             y: f[1],
             z: f[2],
         },
-        dir_rm: Mat33 {
-            r0: Vec3 {
-                x: f[3],
-                y: f[4],
-                z: f[5],
-            },
-            r1: Vec3 {
-                x: f[6],
-                y: f[7],
-                z: f[8],
-            },
-            r2: Vec3 {
-                x: f[9],
-                y: f[10],
-                z: f[11],
-            },
-        },
-        inv_rm: Mat33 {
-            r0: Vec3 {
-                x: f[12],
-                y: f[13],
-                z: f[14],
-            },
-            r1: Vec3 {
-                x: f[15],
-                y: f[16],
-                z: f[17],
-            },
-            r2: Vec3 {
-                x: f[18],
-                y: f[19],
-                z: f[20],
-            },
-        },
+        dir_rm,
+        inv_rm,
         orientation: o,
     }))
 }
