@@ -1,5 +1,5 @@
 // Sixteen hexadecimal digits at a place of a file, and the double whose bits they are.
-use probe::double;
+use numbers::float::double;
 use sheets::bytes::byte;
 use sheets::num::DoubleRead;
 ghost use mathlib.Core.Path.{_≡_};

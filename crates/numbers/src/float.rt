@@ -1,6 +1,7 @@
-// The smaller methods of f64 that the Rust uses, and the double of a decimal numeral.
+// The bits of a double, the smaller methods of f64 that the Rust uses, and the double of a decimal numeral.
 ghost use mathlib.Core.Path.{_≡_};
 ghost use Prim.Native.Nat.{_≤_, _<_, _^_};
+ghost use lib.Ieee.{binary64, ofBits, toBits};
 ghost use Rattle.numbers.specs.Floats as Floats;
 ghost use Rattle.numbers.specs.Floats.{signDigit, clampUnit, toRadians, toDegrees, remainder, nearest};
 
@@ -8,6 +9,26 @@ const PI: f64 = 3.141592653589793;
 
 // The weight of the sign bit.
 const SIGN: u64 = 0x8000_0000_0000_0000;
+
+// The bits of any double; for any NaN 7ff8000000000000.
+pub fn bits(x: f64) -> u64
+    ensures { λ r. ⌜ r ≡ toBits binary64 x ⌝ }
+{
+    if x != x {
+        return 0x7ff8_0000_0000_0000;
+    }
+    f64::to_bits(x)
+}
+
+// The double of any bits.
+pub fn double(bits: u64) -> f64
+    ensures { λ r. ⌜ r ≡ ofBits binary64 bits ⌝ }
+{
+    if bits % SIGN > 0x7ff0_0000_0000_0000 {
+        return 0.0 / 0.0;
+    }
+    f64::from_bits(bits)
+}
 
 // The sign bit, 0 or 1. A NaN's is open, and counts as 0.
 pub fn sign_bit(x: f64) -> u64

@@ -12,8 +12,6 @@ pub mod words;
 pub use floats::floats as apply;
 pub use table::inputs_of;
 pub use table::outputs_of;
-pub use words::bits;
-pub use words::double;
 ghost use mathlib.Core.Path.{_≡_};
 ghost use Rattle.probe.specs.Words.{padded};
 ghost use Rattle.probe.specs.Rows.{answered};

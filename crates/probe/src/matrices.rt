@@ -1,6 +1,5 @@
 // Operations on matrices, and the constants.
 use crate::parts::parts;
-use crate::words::bits;
 use crate::words::matrix;
 use crate::words::matrix_at;
 use crate::words::truth;
@@ -8,6 +7,7 @@ use crate::words::vector;
 use crate::words::vector_at;
 use crate::words::with_vector;
 use numbers::angle::Angle;
+use numbers::float::bits;
 use numbers::mat33::Mat33;
 use numbers::vec3::Vec3;
 ghost use mathlib.Core.Path.{_≡_};

@@ -1,31 +1,12 @@
 // Words taken and answered. A double goes by its bits; every NaN is 7ff8000000000000.
+use numbers::float::bits;
+use numbers::float::double;
 use numbers::mat33::Mat33;
 use numbers::vec3::Vec3;
 ghost use Prim.Native.Nat.{_≤_};
 ghost use mathlib.Core.Path.{_≡_};
 ghost use mathlib.Core.List.{[], _∷_};
-ghost use lib.Ieee.{binary64, ofBits, toBits};
 ghost use Rattle.probe.specs.Words as Words;
-
-// The double of any bits.
-pub fn double(bits: u64) -> f64
-    ensures { λ r. ⌜ r ≡ ofBits binary64 bits ⌝ }
-{
-    if bits % 0x8000_0000_0000_0000 > 0x7ff0_0000_0000_0000 {
-        return 0.0 / 0.0;
-    }
-    f64::from_bits(bits)
-}
-
-// The bits of any double.
-pub fn bits(x: f64) -> u64
-    ensures { λ r. ⌜ r ≡ toBits binary64 x ⌝ }
-{
-    if x != x {
-        return 0x7ff8_0000_0000_0000;
-    }
-    f64::to_bits(x)
-}
 
 // The double of the word at a place.
 pub fn double_at(a: [u64; 32], at: usize) -> f64

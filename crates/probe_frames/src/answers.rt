@@ -8,7 +8,7 @@ use frames::positions::LatLong;
 use frames::rotation::Xyz;
 use frames::rotation::Zyx;
 use frames::vector::LocalVector;
-use probe::bits;
+use numbers::float::bits;
 use probe::words::number;
 use probe::words::one;
 use probe::words::vector;

@@ -1,22 +1,11 @@
 // Fields of an output line: a space and the 16 hexadecimal digits of a double's bits, stored in a lent buffer.
+use numbers::float::bits;
 ghost use mathlib.Core.Path.{_≡_};
 ghost use mathlib.Core.List.{[], _∷_};
 ghost use Prim.Native.Nat.{_+_, _<_, _≤_};
 ghost use lib.ListN.{length};
-ghost use lib.Ieee.{binary64, toBits};
 ghost use Rattle.sheets.specs.Output.{hexDigit, hex, fieldsText};
 ghost use Rattle.sheets.specs.Writing.{Written};
-
-// The bits of a double; for any NaN 7ff8000000000000.
-fn bits(x: f64) -> u64
-    ensures { λ r. ⌜ r ≡ toBits binary64 x ⌝ }
-{
-    if x != x {
-        0x7ff8000000000000
-    } else {
-        f64::to_bits(x)
-    }
-}
 
 const DIGITS: [u8; 16] = *b"0123456789abcdef";
 

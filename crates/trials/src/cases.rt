@@ -1,5 +1,5 @@
 // The digits of a case, and the readings and bytes that they stand for.
-use probe::double;
+use numbers::float::double;
 ghost use Prim.Native.Nat.{_+_, _≤_};
 ghost use lib.ListN.{length};
 ghost use Rattle.io.specs.Counts.{Counts};

@@ -1,12 +1,12 @@
--- `probe::words::bits` meets its contract: the bits that `toBits` has for a NaN are those that the code answers. Assumes nothing.
+-- `numbers::float::bits` meets its contract: the bits that `toBits` has for a NaN are those that the code answers. Assumes nothing.
 use mathlib.Core.Path.{refl, sym, subst}
 use lib.Dec.{T}
 use lib.Ieee.{toBits}
 use lib.Ieee.Compare.{differs-from-itself}
 use borrow.Author.Needs.{needs}
 use Rattle.numbers.proofs.NoNan.{no-nan}
-use Rattle.probe.proofs.words.bits.Statement.{statement}
-use Rattle.probe.proofs.words.bits.Tie as tie
+use Rattle.numbers.proofs.float.bits.Statement.{statement}
+use Rattle.numbers.proofs.float.bits.Tie as tie
 
 returns : tie.Need-returns
 unfolding toBits

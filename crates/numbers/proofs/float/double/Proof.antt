@@ -1,4 +1,4 @@
--- `probe::words::double` meets its contract. Which bits are a NaN's is one comparison of them without their sign. Assumes nothing.
+-- `numbers::float::double` meets its contract. Which bits are a NaN's is one comparison of them without their sign. Assumes nothing.
 use mathlib.Core.Path.{_≡_, refl, sym, _∙_, subst}
 use mathlib.Core.Bool.{Bool, not}
 use Prim.Native.Nat.{ℕ, _%_, _≤_, _<_}
@@ -7,8 +7,8 @@ use lib.Dec.{T, ltb, lt→ltb, ltb→lt, not-T}
 use lib.Ieee.{Float, nan, inf, fin, isNan, binary64, div, ofBits, nanBits}
 use lib.Ieee.Bits.{nanBits-above, nanBits-is}
 use borrow.Author.Needs.{needs}
-use Rattle.probe.proofs.words.double.Statement.{statement}
-use Rattle.probe.proofs.words.double.Tie as tie
+use Rattle.numbers.proofs.float.double.Statement.{statement}
+use Rattle.numbers.proofs.float.double.Tie as tie
 
 zero-by-zero : div binary64 (ofBits binary64 0) (ofBits binary64 0) ≡ nan
 unfolding div ofBits
