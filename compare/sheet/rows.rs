@@ -14,28 +14,26 @@ pub enum Stop {
 
 type Applied = Result<Value, Stop>;
 
-// The body for a vector v, or a frame f, of whichever orientation.
-macro_rules! with_vector {
-    ($value:expr, $v:ident => $body:expr) => {
+// The body for a value of one of these kinds.
+macro_rules! with_one {
+    ($value:expr, $x:ident => $body:expr, $($case:ident)*) => {
         match $value {
-            Value::Venu($v) => $body,
-            Value::Vned($v) => $body,
-            Value::Vbody($v) => $body,
-            Value::Vwan($v) => $body,
+            $(Value::$case($x) => $body,)*
             _ => return Err(Stop::Stuck),
         }
     };
 }
 
+// The body for a vector, or a frame, of whichever orientation.
+macro_rules! with_vector {
+    ($value:expr, $v:ident => $body:expr) => {
+        with_one!($value, $v => $body, Venu Vned Vbody Vwan)
+    };
+}
+
 macro_rules! with_frame {
     ($value:expr, $f:ident => $body:expr) => {
-        match $value {
-            Value::Fenu($f) => $body,
-            Value::Fned($f) => $body,
-            Value::Fbody($f) => $body,
-            Value::Fwan($f) => $body,
-            _ => return Err(Stop::Stuck),
-        }
+        with_one!($value, $f => $body, Fenu Fned Fbody Fwan)
     };
 }
 
