@@ -1,5 +1,5 @@
 -- The check's walk over the lines, a turn at a time, and the whole sheet: a law for each way out of `admit_lines` and `admit`. Assumes nothing.
-use Prim.Native.Nat.{ℕ, suc, _+_, _-_, _<_, _≤_}
+use Prim.Native.Nat.{ℕ, suc, _+_, _-_, _%_, _<_, _≤_}
 use native.Mathlib.Omega.{arith}
 use mathlib.Core.Path.{_≡_, refl, sym, ap, _∙_, subst}
 use mathlib.Core.Bool.{Bool, true, false}
@@ -28,6 +28,7 @@ use Rattle.sheets.specs.Walking.{kindFrom, Stands, lineWord, unbarred, l
 use Rattle.sheets.specs.declared.admit.LineKind.{LineKind}
 use Rattle.sheets.specs.declared.admit.Outcome.{Outcome}
 use Rattle.sheets.specs.declared.admit.Admission.{Admission}
+use Rattle.sheets.proofs.NewestLaws.{newest-none}
 use Rattle.sheets.proofs.PassedLaws.{stands-given, stands-shown}
 
 -- ---- the state after a line whose word has the kind k
@@ -66,20 +67,20 @@ laid-after codes n h i s l k e =
 
 -- ---- the walk, where so many lines after line 1 are passed and the next one stands at a place; the whole walk comes to o
 
-pub record Midway (s : List ℕ) (at passed : ℕ) (words codes : List ℕ) (o : Walked) : Type 0 where
+pub record Midway (s : List ℕ) (at passed : ℕ) (words codes newest : List ℕ) (o : Walked) : Type 0 where
   pub lines : List Line
   pub phase : ℕ
   pub state : Stateᶜ
   pub goes : readLines (95 - passed) (passed + 2) phase s at ≡ formed lines
   pub rest : stepsᶜ lines (passed + 2) state ≡ o
-  pub stands : Stands words codes passed (state .known)
+  pub stands : Stands words codes newest passed (state .known)
   pub laid : take (passed + 1) codes ≡ 255 ∷ state .codes
 
-pub midway-start : (s : List ℕ) (at : ℕ) (ls : List Line) → readLines 95 2 0 s at ≡ formed ls → Midway s at 0 (replicate 96 0) (replicate 96 255) (stepsᶜ ls 2 startᶜ)
+pub midway-start : (s : List ℕ) (at : ℕ) (ls : List Line) → readLines 95 2 0 s at ≡ formed ls → Midway s at 0 (replicate 96 0) (replicate 96 255) (replicate 512 0) (stepsᶜ ls 2 startᶜ)
 unfolding kindFrom
-midway-start s at ls e = record { lines = ls; phase = 0; state = startᶜ; goes = e; rest = refl; stands = record { few = omega arith; is = λ w hw. refl }; laid = refl }
+midway-start s at ls e = record { lines = ls; phase = 0; state = startᶜ; goes = e; rest = refl; stands = record { few = omega arith; from = newest-none _; is = λ w hw. refl }; laid = refl }
 
-module _ (s : List ℕ) (at passed : ℕ) (words codes : List ℕ) (o : Walked) (m : Midway s at passed words codes o) where
+module _ (s : List ℕ) (at passed : ℕ) (words codes newest : List ℕ) (o : Walked) (m : Midway s at passed words codes newest o) where
   pub walk-done : passed ≤ 95 → length codes ≡ 96 → length s ≤ at → Walks o (record { outcome = Outcome.Passes (passed + 1); codes = codes })
   unfolding Walks stepsᶜ
   walk-done le lc h =
@@ -116,10 +117,10 @@ module _ (s : List ℕ) (at passed : ℕ) (words codes : List ℕ) (o : Walked) 
 
       module _ (le : passed < 95) (lw : length words ≡ 96) (lc : length codes ≡ 96) (code kind next : ℕ) (er : r ≡ LineKind.Is code kind next) where
         stands-after : (l : Line) → IsLine l → (k : Kind) → lineKind l (m .state .known) ≡ fine k
-            → Stands (set words (passed + 1) (codeOf (lineWord l))) (set codes (passed + 1) (kindCode k)) (passed + 1) (stepped (passed + 2) (m .state) l k .known)
+            → Stands (set words (passed + 1) (codeOf (lineWord l))) (set codes (passed + 1) (kindCode k)) (set newest (codeOf (lineWord l) % 512) (passed + 1)) (passed + 1) (stepped (passed + 2) (m .state) l k .known)
         unfolding lineKind
-        stands-after (let-line w x) hl k e = stands-given words codes passed (m .state .known) (m .stands) lw lc le w (hl .0 .0) k
-        stands-after (show-line w) hl k e = stands-shown words codes passed (m .state .known) (m .stands) lw lc le w (hl .0) k (go (lookup w (m .state .known)) e)
+        stands-after (let-line w x) hl k e = stands-given words codes newest passed (m .state .known) (m .stands) lw lc le w (hl .0 .0) k
+        stands-after (show-line w) hl k e = stands-shown words codes newest passed (m .state .known) (m .stands) lw lc le w (hl .0) k (go (lookup w (m .state .known)) e)
           where
             go : (q : Option Kind) → known? name q ≡ fine k → q ≡ some k
             go none e = let z : _≡_ {A = ℕ} 0 1 = cc in absurd (omega arith)
@@ -137,12 +138,12 @@ module _ (s : List ℕ) (at passed : ℕ) (words codes : List ℕ) (o : Walked) 
             let ei : passed + 1 + 2 ≡ suc (passed + 2) = omega arith in
             ap (λ i. stepsᶜ (now .rest) i (stepped (passed + 2) (m .state) (now .line) k)) ei ∙ sym (steps-fine (now .line) (now .rest) (passed + 2) (m .state) k e) ∙ here
 
-        pub walk-on : Midway s next (passed + 1) (set words (passed + 1) code) (set codes (passed + 1) kind) o
+        pub walk-on : (later : List ℕ) → later ≡ set newest (code % 512) (passed + 1) → Midway s next (passed + 1) (set words (passed + 1) code) (set codes (passed + 1) kind) later o
         unfolding lineSaid
-        walk-on = go (lineKind (now .line) (m .state .known)) refl said
+        walk-on later el = go (lineKind (now .line) (m .state .known)) refl said
           where
             go : (q : Checked Kind) → lineKind (now .line) (m .state .known) ≡ q → r ≡ lineSaid (lineWord (now .line)) q (now .next)
-                → Midway s next (passed + 1) (set words (passed + 1) code) (set codes (passed + 1) kind) o
+                → Midway s next (passed + 1) (set words (passed + 1) code) (set codes (passed + 1) kind) later o
             go (fine k) eq e =
                 let ec : codeOf (lineWord (now .line)) ≡ code = cc in
                 let ek : kindCode k ≡ kind = cc in
@@ -154,7 +155,7 @@ module _ (s : List ℕ) (at passed : ℕ) (words codes : List ℕ) (o : Walked) 
                   state = stepped (passed + 2) (m .state) (now .line) k;
                   goes = goes-after en;
                   rest = rest-after k eq;
-                  stands = rw (← ec, ← ek) (stands-after (now .line) line k eq);
+                  stands = rw (el, ← ec, ← ek) (stands-after (now .line) line k eq);
                   laid = rw (← ek) (laid-after codes (passed + 1) (omega arith) (passed + 2) (m .state) (now .line) k (m .laid));
                 }
             go (bad f) eq e = let z : _≡_ {A = ℕ} 0 1 = cc in absurd (omega arith)

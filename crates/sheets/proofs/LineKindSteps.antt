@@ -27,7 +27,7 @@ use Rattle.sheets.proofs.Inverse.{then-read}
 use Rattle.sheets.proofs.PieceSteps.{then-none, spaced-none, spaced-got, closing-none, closing-got}
 use Rattle.sheets.proofs.Viewed.{coded-none, coded-got}
 use Rattle.sheets.proofs.Slices.{word-is}
-use Rattle.sheets.specs.Walking.{FoundKind, Stands, kindSaid, ExprHas, unbarred, lineKind, lineSaid, LineHas, BarredWord}
+use Rattle.sheets.specs.Walking.{FoundKind, Standing, kindSaid, ExprHas, unbarred, lineKind, lineSaid, LineHas, BarredWord}
 use Rattle.sheets.specs.declared.kind_walk.KindRead.{KindRead}
 use Rattle.sheets.specs.declared.admit.LineKind.{LineKind}
 use Rattle.sheets.proofs.KindSteps.{found-kind, none-found, some-found}
@@ -51,17 +51,17 @@ module _ (ps : Known Kind) (code : ℕ) (t : Bool) (ht : Opens code t) where
   pub barred-operator : t ≡ true → BarredWord code ps true
   barred-operator h = record { is = λ w hw e. ap (λ b. b || knows w ps) (sym h ∙ ht .is w hw e) }
 
-  module _ (h : t ≡ false) (words codes : List ℕ) (passed : ℕ) (st : Stands words codes passed ps) (f : ℕ) (hf : FoundKind words codes passed code f) where
+  module _ (h : t ≡ false) (words codes newest : List ℕ) (st : Standing words codes newest ps) (f : ℕ) (hf : FoundKind words codes newest code f) where
     by-lookup : (w : Word) → IsWord w → codeOf w ≡ code → isSome (lookup w ps) ≡ barred w ps
     by-lookup w hw e = knows-is w ps ∙ ap (λ b. b || knows w ps) (sym h ∙ ht .is w hw e)
 
     pub barred-not : f ≡ 255 → BarredWord code ps false
-    barred-not i = record { is = λ w hw e. ap isSome (sym (none-found (lookup w ps) f (found-kind words codes passed ps st code f hf w hw (sym e)) i)) ∙ by-lookup w hw e }
+    barred-not i = record { is = λ w hw e. ap isSome (sym (none-found (lookup w ps) f (found-kind words codes newest ps st code f hf w hw (sym e)) i)) ∙ by-lookup w hw e }
 
     pub barred-known : (f ≡ 255 → ⊥) → BarredWord code ps true
     barred-known i = record {
       is = λ w hw e.
-          let (k, eo, ek) = some-found (lookup w ps) f (found-kind words codes passed ps st code f hf w hw (sym e)) i in
+          let (k, eo, ek) = some-found (lookup w ps) f (found-kind words codes newest ps st code f hf w hw (sym e)) i in
           ap isSome (sym eo) ∙ by-lookup w hw e;
     }
 
@@ -121,13 +121,13 @@ module _ (s : List ℕ) (at : ℕ) (r : WordRead) (er : r ≡ coded (spaced (rea
         let (el, ez) = closes (show-line w) l s n m ek in
         (w, hw, ec, el, ez)
 
-    module _ (words codes : List ℕ) (passed : ℕ) (st : Stands words codes passed ps) (f : ℕ) (hf : FoundKind words codes passed code f) where
+    module _ (words codes newest : List ℕ) (st : Standing words codes newest ps) (f : ℕ) (hf : FoundKind words codes newest code f) where
       pub show-unknown : f ≡ 255 → LineHas (readShow s at) ps (LineKind.Refused 5)
       unfolding lineKind lineSaid
       show-unknown i = record {
         is = λ l m e.
             let (w, hw, ec, el, ez) = show-read l m e in
-            rw (el, none-found (lookup w ps) f (found-kind words codes passed ps st code f hf w hw ec) i) refl;
+            rw (el, none-found (lookup w ps) f (found-kind words codes newest ps st code f hf w hw ec) i) refl;
       }
 
       module _ (i : f ≡ 255 → ⊥) (c : Read) (ec : c ≡ closed s n) where
@@ -139,7 +139,7 @@ module _ (s : List ℕ) (at : ℕ) (r : WordRead) (er : r ≡ coded (spaced (rea
         show-known next j = record {
           is = λ l m e.
               let (w, hw, ew, el, ez) = show-read l m e in
-              let (k, eo, ek) = some-found (lookup w ps) f (found-kind words codes passed ps st code f hf w hw ew) i in
+              let (k, eo, ek) = some-found (lookup w ps) f (found-kind words codes newest ps st code f hf w hw ew) i in
               let en : next ≡ m = cc in
               rw (el, eo) (line-same _ _ _ _ _ _ ew ek en);
         }

@@ -1,13 +1,13 @@
 -- The operands of a line: what stands under a number after it was put there, that the others are as they were, and the words looked up so far. Assumes nothing.
-use Prim.Native.Nat.{ℕ, zero, suc, _+_, _-_, _/_, _<_, _≤_}
+use Prim.Native.Nat.{ℕ, zero, suc, _+_, _-_, _/_, _%_, _<_, _≤_}
 use native.Mathlib.Omega.{arith}
 use native.Mathlib.Numerals.{sub-one}
-use mathlib.Core.Path.{_≡_, refl, sym, ap, _∙_}
+use mathlib.Core.Path.{_≡_, refl, sym, ap, subst, _∙_}
 use mathlib.Core.Logic.{_⊎_, inl, inr, ⊎-elim}
 use mathlib.Core.Bool.{Bool, true, false}
 use mathlib.Core.List.{List, [], _∷_}
 use lib.Dec.{ltb, eqb}
-use lib.ListN.{length, set, getD, length-set}
+use lib.ListN.{length, set, getD, replicate, length-set}
 use lib.Seq.{getD-set-same, getD-set-other}
 use lib.Ieee.{Float}
 use borrow.Author.Tests.{lt-leb, ltb-true, ltb-false, eq-eqb, ne-eqb, eqb-true}
@@ -30,6 +30,8 @@ use Rattle.sheets.specs.Views.{coded}
 use Rattle.sheets.proofs.ReaderLaws.{byte-inside}
 use Rattle.sheets.proofs.Viewed.{coded-none, coded-got}
 use Rattle.sheets.proofs.Slices.{word-is}
+use Rattle.sheets.specs.Newest.{newestOf, Newest}
+use Rattle.sheets.proofs.NewestLaws.{newest-none, newest-more, from-newest}
 use Rattle.sheets.specs.Operands.{unpacked, operand, floatsOf, codeFor, rowsWith, Ready}
 use Rattle.sheets.specs.Running.{orFound, slotFound, readingFound, Tabled}
 use Rattle.sheets.specs.declared.operands.Found.{Found}
@@ -166,13 +168,38 @@ upto-ready l ks fs t k rs n h u ps tb = record {
 
 -- ---- the search for one word, the newest slot first
 
+-- the code of the word in a slot
+abbrev wordIn : List Slot → ℕ → ℕ
+wordIn t i = getD t i emptySlot .word
+
+-- the newest places of the words in the first n slots
+pub record NewestIn (t : List Slot) (n : ℕ) (newest : List ℕ) : Type 0 where
+  pub is : Newest (wordIn t) n newest
+
+pub newest-start : (t : List Slot) → NewestIn t 0 (replicate 512 0)
+newest-start t = record { is = newest-none (wordIn t) }
+
+-- a let fills the next slot
+pub newest-again : (t : List Slot) (n : ℕ) (newest : List ℕ) → NewestIn t n newest → n < length t → (y : Slot) (c : ℕ) → y .word ≡ c
+    → (later : List ℕ) → later ≡ set newest (c % 512) (n + 1) → NewestIn (set t n y) (n + 1) later
+newest-again t n newest h l y c e later el = record {
+  is = subst (Newest (wordIn (set t n y)) (n + 1)) (ap (λ k. set newest (k % 512) (n + 1)) (ap (λ (z : Slot). z .word) (getD-set-same t n y emptySlot l) ∙ e) ∙ sym el)
+      (newest-more (wordIn t) n newest (h .is) (wordIn (set t n y)) (λ i m. ap (λ (z : Slot). z .word) (getD-set-other t n i y emptySlot (λ q. omega arith))));
+}
+
 pub record Seeks (n : ℕ) (t : List Slot) (c : ℕ) (found : Found) (j : ℕ) : Type 0 where
   pub below : j ≤ n
   pub none : 0 < j → found ≡ Found.Unknown
   pub rest : orFound found (slotFound j t c) ≡ slotFound n t c
 
-pub seek-start : (n : ℕ) (t : List Slot) (c : ℕ) → Seeks n t c Found.Unknown n
-seek-start n t c = record { below = omega arith; none = λ h. refl; rest = refl }
+-- it begins at the newest place for the word's remainder
+pub seek-start : (n : ℕ) (t : List Slot) (newest : List ℕ) → NewestIn t n newest → (c j : ℕ) → j ≡ newestOf newest c → Seeks n t c Found.Unknown j
+unfolding slotFound
+seek-start n t newest h c j e = record {
+  below = omega (arith, h .is .most c);
+  none = λ z. refl;
+  rest = ap (λ k. slotFound k t c) e ∙ from-newest (wordIn t) n newest (h .is) c (λ k. slotFound k t c) (λ k q. rw (ne-eqb (wordIn t k) c q) refl);
+}
 
 -- what is read within the table does not depend on the default
 inside : (t : List Slot) (k : ℕ) (a b : Slot) → k < length t → getD t k a ≡ getD t k b

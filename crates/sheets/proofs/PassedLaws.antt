@@ -1,5 +1,5 @@
 -- The words of the lines passed, by their codes: the readings, a word's kind, and one line more. Assumes nothing.
-use Prim.Native.Nat.{ℕ, zero, suc, _+_, _-_, _<_, _≤_}
+use Prim.Native.Nat.{ℕ, zero, suc, _+_, _-_, _%_, _<_, _≤_}
 use native.Mathlib.Omega.{arith}
 use native.Mathlib.Numerals.{sub-one}
 use mathlib.Core.Path.{_≡_, refl, sym, ap, _∙_, subst}
@@ -25,6 +25,8 @@ use Rattle.sheets.specs.Check.{readingKinds}
 use Rattle.sheets.proofs.CodeLaws.{word-by}
 use Rattle.sheets.proofs.KindExact.{same-word}
 use Rattle.sheets.proofs.KindRowLaws.{words-agree, every, of-every}
+use Rattle.sheets.specs.Newest.{newestOf, Newest}
+use Rattle.sheets.proofs.NewestLaws.{newest-more, from-newest}
 use Rattle.sheets.specs.Walking.{kindFrom, ReadingKind, Stands}
 
 -- ---- the readings
@@ -150,6 +152,15 @@ module _ (words codes : List ℕ) (w : Word) where
   found-last zero h = refl
   found-last (suc n) h = absurd (omega arith)
 
+pub found-from : (words codes : List ℕ) (w : Word) (i j : ℕ) → i ≡ j → kindFrom words codes i w ≡ kindFrom words codes j w
+found-from words codes w i j e = ap (λ k. kindFrom words codes k w) e
+
+-- the search may begin at the newest place for the word's remainder
+pub kind-newest : (words codes newest : List ℕ) (n : ℕ) → Newest (λ i. getD words (suc i) 0) n newest → (w : Word) → kindFrom words codes (newestOf newest (codeOf w)) w ≡ kindFrom words codes n w
+unfolding kindFrom
+kind-newest words codes newest n h w =
+    from-newest (λ i. getD words (suc i) 0) n newest h (codeOf w) (λ k. kindFrom words codes k w) (λ k e. rw (ne-eqb (getD words (suc k) 0) (codeOf w) e) refl)
+
 -- ---- one line more
 
 -- the lines before the place i stay as they are
@@ -159,7 +170,7 @@ kept words codes i a b zero h w = refl
 kept words codes i a b (suc n) h w =
     rw (getD-set-other words i (suc n) a 0 (omega arith), getD-set-other codes i (suc n) b 0 (omega arith), kept words codes i a b n (omega arith) w) refl
 
-module _ (words codes : List ℕ) (passed : ℕ) (ps : Known Kind) (st : Stands words codes passed ps) (lw : length words ≡ 96) (lc : length codes ≡ 96) (room : passed < 95) (w : Word) (hw : IsWord w) (k : Kind) where
+module _ (words codes newest : List ℕ) (passed : ℕ) (ps : Known Kind) (st : Stands words codes newest passed ps) (lw : length words ≡ 96) (lc : length codes ≡ 96) (room : passed < 95) (w : Word) (hw : IsWord w) (k : Kind) where
   one-more : (v : Word) → IsWord v
       → kindFrom (set words (passed + 1) (codeOf w)) (set codes (passed + 1) (kindCode k)) (passed + 1) v ≡ when (sameWord v w) (kindCode k) (kindOr255 (lookup v ps))
   unfolding kindFrom
@@ -172,17 +183,23 @@ module _ (words codes : List ℕ) (passed : ℕ) (ps : Known Kind) (st : Stands 
           rw (getD-set-same words (suc n) (codeOf w) 0 (omega arith), getD-set-same codes (suc n) (kindCode k) 0 (omega arith), words-agree w v hw hv)
           (ap (when (sameWord v w) (kindCode k)) (kept words codes (suc n) (codeOf w) (kindCode k) n (omega arith) v ∙ ap (λ m. kindFrom words codes m v) en ∙ st .is v hv))
 
+  from-more : Newest (λ i. getD (set words (passed + 1) (codeOf w)) (suc i) 0) (passed + 1) (set newest (codeOf w % 512) (passed + 1))
+  from-more =
+      let e : getD (set words (passed + 1) (codeOf w)) (suc passed) 0 ≡ codeOf w = ap (λ j. getD (set words (passed + 1) (codeOf w)) j 0) (omega arith) ∙ getD-set-same words (passed + 1) (codeOf w) 0 (omega arith) in
+      subst (λ c. Newest (λ i. getD (set words (passed + 1) (codeOf w)) (suc i) 0) (passed + 1) (set newest (c % 512) (passed + 1))) e
+      (newest-more (λ i. getD words (suc i) 0) passed newest (st .from) (λ i. getD (set words (passed + 1) (codeOf w)) (suc i) 0) (λ i l. getD-set-other words (passed + 1) (suc i) (codeOf w) 0 (λ q. omega arith)))
+
   -- a let gives the word
-  pub stands-given : Stands (set words (passed + 1) (codeOf w)) (set codes (passed + 1) (kindCode k)) (passed + 1) ((w, k) ∷ ps)
-  stands-given = record { few = omega arith; is = λ v hv. one-more v hv ∙ go (sameWord v w) (lookup v ps) }
+  pub stands-given : Stands (set words (passed + 1) (codeOf w)) (set codes (passed + 1) (kindCode k)) (set newest (codeOf w % 512) (passed + 1)) (passed + 1) ((w, k) ∷ ps)
+  stands-given = record { few = omega arith; from = from-more; is = λ v hv. one-more v hv ∙ go (sameWord v w) (lookup v ps) }
     where
       go : (b : Bool) (o : Option Kind) → when b (kindCode k) (kindOr255 o) ≡ kindOr255 (orElse b k o)
       go true o = refl
       go false o = refl
 
   -- a show's word is known
-  pub stands-shown : lookup w ps ≡ some k → Stands (set words (passed + 1) (codeOf w)) (set codes (passed + 1) (kindCode k)) (passed + 1) ps
-  stands-shown e = record { few = omega arith; is = λ v hv. one-more v hv ∙ go v (sameWord v w) refl }
+  pub stands-shown : lookup w ps ≡ some k → Stands (set words (passed + 1) (codeOf w)) (set codes (passed + 1) (kindCode k)) (set newest (codeOf w % 512) (passed + 1)) (passed + 1) ps
+  stands-shown e = record { few = omega arith; from = from-more; is = λ v hv. one-more v hv ∙ go v (sameWord v w) refl }
     where
       go : (v : Word) (b : Bool) → sameWord v w ≡ b → when b (kindCode k) (kindOr255 (lookup v ps)) ≡ kindOr255 (lookup v ps)
       go v true h = ap kindOr255 (sym e ∙ ap (λ u. lookup u ps) (sym (same-word v w (subst T (sym h) tt))))

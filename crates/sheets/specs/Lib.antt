@@ -22,6 +22,7 @@ pub mod KindCodes
 pub mod Views
 pub mod Writing
 pub mod FirstLines
+pub mod Newest
 pub mod Walking
 pub mod Operands
 pub mod Evaluating

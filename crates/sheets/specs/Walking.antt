@@ -14,6 +14,7 @@ use Rattle.sheets.specs.Reader.{Got, got, readArgs, readExpr, formed, re
 use Rattle.sheets.specs.Kinds.{Kind, kindCode}
 use Rattle.sheets.specs.Table.{when}
 use Rattle.sheets.specs.Names.{Known, lookup, barred}
+use Rattle.sheets.specs.Newest.{newestOf, Newest}
 use Rattle.sheets.specs.KindCodes.{keyFrom, kindOr255}
 use Rattle.sheets.specs.Refusals.{name, Refusal, fault, refusalNumber}
 use Rattle.sheets.specs.Check.{Checked, fine, bad, thenᶜ, known?, kindOfExpr, kindsOfExprs, Walked, passes, refuses, stepsᶜ, readingKinds, startᶜ}
@@ -35,16 +36,20 @@ kindFrom words codes (suc n) w = when (eqb (getD words (suc n) 0) (codeOf w)) (g
 pub record ReadingKind (code r : ℕ) : Type 0 where
   pub is : (w : Word) → IsWord w → codeOf w ≡ code → r ≡ kindOr255 (lookup w readingKinds)
 
-pub record FoundKind (words codes : List ℕ) (passed code r : ℕ) : Type 0 where
-  pub is : passed ≤ 95 → (w : Word) → IsWord w → codeOf w ≡ code → r ≡ kindFrom words codes passed w
+pub record FoundKind (words codes newest : List ℕ) (code r : ℕ) : Type 0 where
+  pub is : newestOf newest code ≤ 95 → (w : Word) → IsWord w → codeOf w ≡ code → r ≡ kindFrom words codes (newestOf newest code) w
 
--- the lines passed stand for the known words ps
-pub record Stands (words codes : List ℕ) (passed : ℕ) (ps : Known Kind) : Type 0 where
+-- so many lines passed stand for the known words ps
+pub record Stands (words codes newest : List ℕ) (passed : ℕ) (ps : Known Kind) : Type 0 where
   pub few : passed ≤ 95
+  pub from : Newest (λ i. getD words (suc i) 0) passed newest
   pub is : (w : Word) → IsWord w → kindFrom words codes passed w ≡ kindOr255 (lookup w ps)
 
-pub record ForKnown (words codes : List ℕ) (passed : ℕ) (P : Known Kind → Type 0) : Type 0 where
-  pub is : (ps : Known Kind) → Stands words codes passed ps → P ps
+abbrev pub Standing : List ℕ → List ℕ → List ℕ → Known Kind → Type 0
+Standing words codes newest ps = (passed : ℕ) × Stands words codes newest passed ps
+
+pub record ForKnown (words codes newest : List ℕ) (P : Known Kind → Type 0) : Type 0 where
+  pub is : (ps : Known Kind) → Standing words codes newest ps → P ps
 
 -- ---- expressions
 

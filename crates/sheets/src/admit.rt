@@ -1,5 +1,5 @@
 // Refusals 3 to 6 over a whole sheet, in checking order: its form, its ellipsoid, and then names and kinds, line by line.
-// The lists `words` and `codes` and the count `passed` are those of kind_walk.rt.
+// The lists `words`, `codes` and `newest` are those of kind_walk.rt.
 use crate::bytes::WordRead;
 use crate::bytes::byte;
 use crate::expr::Read;
@@ -16,6 +16,7 @@ use crate::lines::SHOW;
 use crate::lines::closing;
 use crate::lines::opening;
 use crate::lines::word_slot;
+use crate::newest::put_newest;
 ghost use mathlib.Core.Path.{_≡_};
 ghost use Rattle.sheets.specs.Reader.{readLet, readShow, readLine, readSheet};
 ghost use Rattle.sheets.specs.Answers.{ofForm};
@@ -41,19 +42,25 @@ pub struct Admission {
 }
 
 // Whether the word with this code cannot be given: it is an operator's, or known.
-fn is_barred(words: &[u64; 96], codes: &[u8; 96], passed: usize, code: u64) -> bool
-    ensures { λ r. ⌜ ForKnown (now (words .entry)) (now (codes .entry)) passed (λ ps. BarredWord code ps r) ⌝ }
+fn is_barred(words: &[u64; 96], codes: &[u8; 96], newest: &[u8; 512], code: u64) -> bool
+    ensures { λ r. ⌜ ForKnown (now (words .entry)) (now (codes .entry)) (now (newest .entry)) (λ ps. BarredWord code ps r) ⌝ }
 {
     if opens(code) {
         return true;
     }
-    let kind = find_kind(words, codes, passed, code);
+    let kind = find_kind(words, codes, newest, code);
     if kind == 255 { false } else { true }
 }
 
 // The rest of a line after `(let`. Its expression is read before its name is given.
-fn let_kind(s: &[u8], at: usize, words: &[u64; 96], codes: &[u8; 96], passed: usize) -> LineKind
-    ensures { λ r. ⌜ ForKnown (now (words .entry)) (now (codes .entry)) passed (λ ps. LineHas (readLet (now (s .entry)) at) ps r) ⌝ }
+fn let_kind(
+    s: &[u8],
+    at: usize,
+    words: &[u64; 96],
+    codes: &[u8; 96],
+    newest: &[u8; 512],
+) -> LineKind
+    ensures { λ r. ⌜ ForKnown (now (words .entry)) (now (codes .entry)) (now (newest .entry)) (λ ps. LineHas (readLet (now (s .entry)) at) ps r) ⌝ }
 {
     let w = word_slot(s, at);
     let WordRead::Is(code, n) = w else {
@@ -61,11 +68,11 @@ fn let_kind(s: &[u8], at: usize, words: &[u64; 96], codes: &[u8; 96], passed: us
     };
     let b = byte(s, n);
     if b == 32 {
-        let r = kind_at(s, n + 1, 11, words, codes, passed);
+        let r = kind_at(s, n + 1, 11, words, codes, newest);
         return match r {
             KindRead::Refused(number) => LineKind::Refused(number),
             KindRead::Is(kind, end) => {
-                if is_barred(words, codes, passed, code) {
+                if is_barred(words, codes, newest, code) {
                     return LineKind::Refused(5);
                 }
                 let c = closing(s, end);
@@ -80,14 +87,20 @@ fn let_kind(s: &[u8], at: usize, words: &[u64; 96], codes: &[u8; 96], passed: us
 }
 
 // The rest of a line after `(show`.
-fn show_kind(s: &[u8], at: usize, words: &[u64; 96], codes: &[u8; 96], passed: usize) -> LineKind
-    ensures { λ r. ⌜ ForKnown (now (words .entry)) (now (codes .entry)) passed (λ ps. LineHas (readShow (now (s .entry)) at) ps r) ⌝ }
+fn show_kind(
+    s: &[u8],
+    at: usize,
+    words: &[u64; 96],
+    codes: &[u8; 96],
+    newest: &[u8; 512],
+) -> LineKind
+    ensures { λ r. ⌜ ForKnown (now (words .entry)) (now (codes .entry)) (now (newest .entry)) (λ ps. LineHas (readShow (now (s .entry)) at) ps r) ⌝ }
 {
     let w = word_slot(s, at);
     let WordRead::Is(code, n) = w else {
         return LineKind::Refused(3);
     };
-    let kind = find_kind(words, codes, passed, code);
+    let kind = find_kind(words, codes, newest, code);
     if kind == 255 {
         return LineKind::Refused(5);
     }
@@ -99,16 +112,22 @@ fn show_kind(s: &[u8], at: usize, words: &[u64; 96], codes: &[u8; 96], passed: u
 }
 
 // The line at a place. Its expression is read once: the line ends behind it.
-fn line_kind(s: &[u8], at: usize, words: &[u64; 96], codes: &[u8; 96], passed: usize) -> LineKind
-    ensures { λ r. ⌜ ForKnown (now (words .entry)) (now (codes .entry)) passed (λ ps. LineHas (readLine (now (s .entry)) at) ps r) ⌝ }
+fn line_kind(
+    s: &[u8],
+    at: usize,
+    words: &[u64; 96],
+    codes: &[u8; 96],
+    newest: &[u8; 512],
+) -> LineKind
+    ensures { λ r. ⌜ ForKnown (now (words .entry)) (now (codes .entry)) (now (newest .entry)) (λ ps. LineHas (readLine (now (s .entry)) at) ps r) ⌝ }
 {
     let w = opening(s, at);
     let WordRead::Is(code, n) = w else {
         return LineKind::Refused(3);
     };
     match code {
-        LET => let_kind(s, n, words, codes, passed),
-        SHOW => show_kind(s, n, words, codes, passed),
+        LET => let_kind(s, n, words, codes, newest),
+        SHOW => show_kind(s, n, words, codes, newest),
         _ => LineKind::Refused(3),
     }
 }
@@ -130,13 +149,14 @@ fn admit_lines(s: &[u8], start: usize) -> Admission
 {
     let mut words: [u64; 96] = [0; 96];
     let mut codes: [u8; 96] = [255; 96];
+    let mut newest: [u8; 512] = [0; 512];
     let mut passed: usize = 0;
     let mut at = start;
     while at < s.len() {
         if 95 <= passed {
             return refused(3, 97);
         }
-        let r = line_kind(s, at, &words, &codes, passed);
+        let r = line_kind(s, at, &words, &codes, &newest);
         match r {
             LineKind::Refused(number) => {
                 return refused(number, passed + 2);
@@ -145,6 +165,7 @@ fn admit_lines(s: &[u8], start: usize) -> Admission
                 passed += 1;
                 words[passed] = code;
                 codes[passed] = kind;
+                put_newest(&mut newest, code, passed as u8);
                 at = next;
             }
         }

@@ -1,11 +1,12 @@
 // The kind of an expression, from the sheet alone: refusals 5 and 6 in the machine's order.
 // The lines passed are two lists: line i + 1 has the word with the code `words[i]`, of the kind with the code `codes[i]`.
-// Line 1 has no word; `passed` is how many lines after it are passed, at most 95.
+// Line 1 has no word; `newest` is that of newest.rt, for the places of `words`.
 // The walk comes after the form pass. Bytes that are not of the grammar, which it then never meets, are answered by refusal 3.
 use crate::bytes::WordRead;
 use crate::bytes::byte;
 use crate::bytes::word;
 use crate::kinds::kind_of_row;
+use crate::newest::newest_of;
 use crate::num::NumRead;
 use crate::num::num;
 ghost use Rattle.sheets.specs.Walking.{ReadingKind, FoundKind, ForKnown, LeafHas, ExprHas, ArgsHave};
@@ -42,13 +43,13 @@ fn reading_kind(code: u64) -> u8
 }
 
 // The kind of the word with this code, 255 where it is unknown.
-pub fn find_kind(words: &[u64; 96], codes: &[u8; 96], passed: usize, code: u64) -> u8
-    ensures { λ r. ⌜ FoundKind (now (words .entry)) (now (codes .entry)) passed code r ⌝ }
+pub fn find_kind(words: &[u64; 96], codes: &[u8; 96], newest: &[u8; 512], code: u64) -> u8
+    ensures { λ r. ⌜ FoundKind (now (words .entry)) (now (codes .entry)) (now (newest .entry)) code r ⌝ }
 {
-    if 95 < passed {
+    let mut i = newest_of(newest, code);
+    if 95 < i {
         return 255;
     }
-    let mut i = passed;
     while 0 < i {
         if words[i] == code {
             return codes[i];
@@ -59,13 +60,19 @@ pub fn find_kind(words: &[u64; 96], codes: &[u8; 96], passed: usize, code: u64) 
 }
 
 // The kind of the word or the number at a place.
-fn leaf_kind(s: &[u8], at: usize, words: &[u64; 96], codes: &[u8; 96], passed: usize) -> KindRead
-    ensures { λ r. ⌜ ForKnown (now (words .entry)) (now (codes .entry)) passed (λ ps. LeafHas (now (s .entry)) at ps r) ⌝ }
+fn leaf_kind(
+    s: &[u8],
+    at: usize,
+    words: &[u64; 96],
+    codes: &[u8; 96],
+    newest: &[u8; 512],
+) -> KindRead
+    ensures { λ r. ⌜ ForKnown (now (words .entry)) (now (codes .entry)) (now (newest .entry)) (λ ps. LeafHas (now (s .entry)) at ps r) ⌝ }
 {
     let w = word(s, at);
     match w {
         WordRead::Is(code, n) => {
-            let kind = find_kind(words, codes, passed, code);
+            let kind = find_kind(words, codes, newest, code);
             if kind == 255 {
                 KindRead::Refused(5)
             } else {
@@ -89,9 +96,9 @@ pub fn kind_at(
     depth: usize,
     words: &[u64; 96],
     codes: &[u8; 96],
-    passed: usize,
+    newest: &[u8; 512],
 ) -> KindRead
-    ensures { λ r. ⌜ ForKnown (now (words .entry)) (now (codes .entry)) passed (λ ps. ExprHas (now (s .entry)) at depth ps r) ⌝ }
+    ensures { λ r. ⌜ ForKnown (now (words .entry)) (now (codes .entry)) (now (newest .entry)) (λ ps. ExprHas (now (s .entry)) at depth ps r) ⌝ }
 {
     let b = byte(s, at);
     if b == 40 {
@@ -102,7 +109,7 @@ pub fn kind_at(
         let WordRead::Is(code, n) = w else {
             return KindRead::Refused(3);
         };
-        let g = gather(s, n, depth - 1, words, codes, passed);
+        let g = gather(s, n, depth - 1, words, codes, newest);
         return match g {
             KeyRead::Refused(number) => KindRead::Refused(number),
             KeyRead::Is(key, end) => {
@@ -115,7 +122,7 @@ pub fn kind_at(
             }
         };
     }
-    leaf_kind(s, at, words, codes, passed)
+    leaf_kind(s, at, words, codes, newest)
 }
 
 // The kinds of a bracket's arguments, from the place after its word.
@@ -125,9 +132,9 @@ fn gather(
     depth: usize,
     words: &[u64; 96],
     codes: &[u8; 96],
-    passed: usize,
+    newest: &[u8; 512],
 ) -> KeyRead
-    ensures { λ r. ⌜ ForKnown (now (words .entry)) (now (codes .entry)) passed (λ ps. ArgsHave (now (s .entry)) at depth 5 0 ps r) ⌝ }
+    ensures { λ r. ⌜ ForKnown (now (words .entry)) (now (codes .entry)) (now (newest .entry)) (λ ps. ArgsHave (now (s .entry)) at depth 5 0 ps r) ⌝ }
 {
     let mut i = at;
     let mut left: usize = 5;
@@ -137,7 +144,7 @@ fn gather(
         if left == 0 {
             return KeyRead::Refused(3);
         }
-        let r = kind_at(s, i + 1, depth, words, codes, passed);
+        let r = kind_at(s, i + 1, depth, words, codes, newest);
         match r {
             KindRead::Refused(number) => {
                 return KeyRead::Refused(number);

@@ -19,6 +19,7 @@ pub mod kinds;
 pub mod limits;
 pub mod lines;
 pub mod lines_run;
+pub mod newest;
 pub mod num;
 pub mod operands;
 pub mod rows;

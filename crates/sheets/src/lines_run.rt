@@ -6,6 +6,8 @@ use crate::effects::Effect;
 use crate::effects::line_effect;
 use crate::effects::next_line;
 use crate::lines::word_slot;
+use crate::newest::newest_of;
+use crate::newest::put_newest;
 use crate::operands::Found;
 use crate::operands::put_found;
 use crate::text::output_line;
@@ -78,6 +80,7 @@ pub fn run_lines(
     ensures { λ r. ⌜ Runs (now (s .entry)) e (now (readings .entry)) (now (out .entry)) start 2 noNames 0 0 (now (out .entry)) r (now (out .exit)) ⌝ }
 {
     let mut t = no_names();
+    let mut newest = [0u8; 512];
     let mut kinds = [255u8; 101];
     let zeros = [0.0; 21];
     let mut rows = [zeros; 101];
@@ -99,7 +102,7 @@ pub fn run_lines(
                 continue;
             };
             let mut found = Found::Unknown;
-            let mut j = n;
+            let mut j = newest_of(&newest, code);
             while 0 < j {
                 j -= 1;
                 let x = t[j];
@@ -125,6 +128,7 @@ pub fn run_lines(
             Effect::Gives(word, value) => {
                 t[n] = Slot { word, value };
                 n += 1;
+                put_newest(&mut newest, word, n as u8);
                 at = to;
                 number += 1;
                 continue;

@@ -13,11 +13,11 @@ use Rattle.sheets.proofs.admit.admit_lines.Statement.{statement}
 use Rattle.sheets.proofs.admit.admit_lines.Tie as tie
 
 abbrev Inv-loop : tie.InvT-loop
-Inv-loop s start words₀ codes₀ passed₀ at₀ words codes passed at =
-    (passed ≤ 95) × (length words ≡ 96) × (length codes ≡ 96) × ((ls : List Line) → readLines 95 2 0 s start ≡ formed ls → Midway s at passed words codes (stepsᶜ ls 2 startᶜ))
+Inv-loop s start words₀ codes₀ newest₀ passed₀ at₀ words codes newest passed at =
+    (passed ≤ 95) × (length words ≡ 96) × (length codes ≡ 96) × ((ls : List Line) → readLines 95 2 0 s start ≡ formed ls → Midway s at passed words codes newest (stepsᶜ ls 2 startᶜ))
 
 abbrev μ-loop : tie.MeasureT-loop
-μ-loop s start words₀ codes₀ passed₀ at₀ words codes passed at = 95 - passed
+μ-loop s start words₀ codes₀ newest₀ passed₀ at₀ words codes newest passed at = 95 - passed
 
 loop-holds : tie.Need-loop-holds Inv-loop μ-loop
 loop-holds c = (omega arith, refl, refl, λ ls e. midway-start _ _ ls e)
@@ -26,7 +26,7 @@ refused-requires : tie.Need-refused-requires Inv-loop μ-loop
 refused-requires c κs = search needs
 
 returns : tie.Need-returns Inv-loop μ-loop
-returns c = record { is = λ ls e. walk-over _ _ _ _ _ _ (c .before .before .before .loop .inv .3 ls e) (c .before .before .loop-test .taken) (c .before .if1 .taken) }
+returns c = record { is = λ ls e. walk-over _ _ _ _ _ _ _ (c .before .before .before .loop .inv .3 ls e) (c .before .before .loop-test .taken) (c .before .if1 .taken) }
 
 line-kind-requires : tie.Need-line-kind-requires Inv-loop μ-loop
 line-kind-requires c κs = search needs
@@ -41,7 +41,7 @@ refused-requires-2 : tie.Need-refused-requires-2 Inv-loop μ-loop
 refused-requires-2 c κs = search needs
 
 returns-2 : tie.Need-returns-2 Inv-loop μ-loop
-returns-2 c = record { is = λ ls e. walk-fault _ _ _ _ _ _ (c .before .before .before .before .before .before .before .before .before .loop .inv .3 ls e) (c .before .before .before .before .before .before .before .before .loop-test .taken) _ (c .before .before .before .before .line-kind .ensures .is _ (c .before .before .before .before .before .before .before .before .before .loop .inv .3 ls e .stands)) _ (c .before .before .r .given .1) _ (c .refused2 .ensures) }
+returns-2 c = record { is = λ ls e. walk-fault _ _ _ _ _ _ _ (c .before .before .before .before .before .before .before .before .before .before .loop .inv .3 ls e) (c .before .before .before .before .before .before .before .before .before .loop-test .taken) _ (c .before .before .before .before .line-kind .ensures .is _ (_, c .before .before .before .before .before .before .before .before .before .before .loop .inv .3 ls e .stands)) _ (c .before .before .r .given .1) _ (c .refused2 .ensures) }
 
 enum-known-r-2 : tie.Need-enum-known-r-2 Inv-loop μ-loop
 enum-known-r-2 c = search needs
@@ -58,17 +58,23 @@ array-write-words c = omega arith
 array-write-codes : tie.Need-array-write-codes Inv-loop μ-loop
 array-write-codes c = omega arith
 
+cast-put-newest : tie.Need-cast-put-newest Inv-loop μ-loop
+cast-put-newest c = omega arith
+
+put-newest-requires : tie.Need-put-newest-requires Inv-loop μ-loop
+put-newest-requires c κs = search needs
+
 loop-less : tie.Need-loop-less Inv-loop μ-loop
 loop-less c = omega arith
 
 loop-again : tie.Need-loop-again Inv-loop μ-loop
-loop-again c = (omega arith, simp length-set (c .before .before .before .before .before .before .before .before .loop .inv .1), simp length-set (c .before .before .before .before .before .before .before .before .loop .inv .2), λ ls e. walk-on _ _ _ _ _ _ (c .before .before .before .before .before .before .before .before .loop .inv .3 ls e) (c .before .before .before .before .before .before .before .loop-test .taken) _ (c .before .before .before .line-kind .ensures .is _ (c .before .before .before .before .before .before .before .before .loop .inv .3 ls e .stands)) (c .before .before .before .before .before .before .if1 .left) (c .before .before .before .before .before .before .before .before .loop .inv .1) (c .before .before .before .before .before .before .before .before .loop .inv .2) _ _ _ (c .before .r2 .given .1))
+loop-again c = (omega arith, simp length-set (c .before .before .before .before .before .before .before .before .before .before .before .loop .inv .1), simp length-set (c .before .before .before .before .before .before .before .before .before .before .before .loop .inv .2), λ ls e. walk-on _ _ _ _ _ _ _ (c .before .before .before .before .before .before .before .before .before .before .before .loop .inv .3 ls e) (c .before .before .before .before .before .before .before .before .before .before .loop-test .taken) _ (c .before .before .before .before .before .line-kind .ensures .is _ (_, c .before .before .before .before .before .before .before .before .before .before .before .loop .inv .3 ls e .stands)) (c .before .before .before .before .before .before .before .before .before .if1 .left) (c .before .before .before .before .before .before .before .before .before .before .before .loop .inv .1) (c .before .before .before .before .before .before .before .before .before .before .before .loop .inv .2) _ _ _ (c .before .before .before .r2 .given .1) _ (c .put-newest .ensures))
 
-add-t23 : tie.Need-add-t23 Inv-loop μ-loop
-add-t23 c = omega arith
+add-t28 : tie.Need-add-t28 Inv-loop μ-loop
+add-t28 c = omega arith
 
 returns-3 : tie.Need-returns-3 Inv-loop μ-loop
-returns-3 c = record { is = λ ls e. walk-done _ _ _ _ _ _ (c .before .loop .inv .3 ls e) (c .before .loop .inv .0) (c .before .loop .inv .2) (c .loop-test .left) }
+returns-3 c = record { is = λ ls e. walk-done _ _ _ _ _ _ _ (c .before .loop .inv .3 ls e) (c .before .loop .inv .0) (c .before .loop .inv .2) (c .loop-test .left) }
 
 pub admit-lines-spec : {M : Type 1} → statement M
 admit-lines-spec =
@@ -89,7 +95,9 @@ admit-lines-spec =
     mul-words
     array-write-words
     array-write-codes
+    cast-put-newest
+    put-newest-requires
     loop-less
     loop-again
-    add-t23
+    add-t28
     returns-3)

@@ -24,30 +24,30 @@ use Rattle.sheets.proofs.kind_walk.leaf_kind.Reads as leaf-kind-reads
 use Rattle.sheets.proofs.kind_walk.+gather+kind_at.{statement}
 use Rattle.sheets.proofs.kind_walk.+gather+kind_at.Tie.{close}
 
-abbrev μ-gather : Measures 3 gather-kinds.ps ℕ
+abbrev μ-gather : Measures 4 gather-kinds.ps ℕ
 μ-gather κs a = a .1 .1 .0 * 2 + 1
 
-abbrev μ-kind-at : Measures 3 kind-at-kinds.ps ℕ
+abbrev μ-kind-at : Measures 4 kind-at-kinds.ps ℕ
 μ-kind-at κs a = a .1 .1 .0 * 2
 
-abbrev gather-at : ℕ → In 3 gather-kinds.ps
-gather-at t = and 3 gather-kinds.ps (is 3 gather-kinds.ps μ-gather t) gather.Pre
+abbrev gather-at : ℕ → In 4 gather-kinds.ps
+gather-at t = and 4 gather-kinds.ps (is 4 gather-kinds.ps μ-gather t) gather.Pre
 
-abbrev gather-below : ℕ → In 3 gather-kinds.ps
-gather-below t = and 3 gather-kinds.ps (falls 3 gather-kinds.ps _<_ μ-gather t) gather.Pre
+abbrev gather-below : ℕ → In 4 gather-kinds.ps
+gather-below t = and 4 gather-kinds.ps (falls 4 gather-kinds.ps _<_ μ-gather t) gather.Pre
 
-abbrev kind-at-at : ℕ → In 3 kind-at-kinds.ps
-kind-at-at t = and 3 kind-at-kinds.ps (is 3 kind-at-kinds.ps μ-kind-at t) kind-at.Pre
+abbrev kind-at-at : ℕ → In 4 kind-at-kinds.ps
+kind-at-at t = and 4 kind-at-kinds.ps (is 4 kind-at-kinds.ps μ-kind-at t) kind-at.Pre
 
-abbrev kind-at-below : ℕ → In 3 kind-at-kinds.ps
-kind-at-below t = and 3 kind-at-kinds.ps (falls 3 kind-at-kinds.ps _<_ μ-kind-at t) kind-at.Pre
+abbrev kind-at-below : ℕ → In 4 kind-at-kinds.ps
+kind-at-below t = and 4 kind-at-kinds.ps (falls 4 kind-at-kinds.ps _<_ μ-kind-at t) kind-at.Pre
 
 abbrev gather-Inv-loop : gather-lts.InvT-loop
-gather-Inv-loop s at depth words codes passed i₀ left₀ key₀ b₀ i left key b =
-    ByteAt s i b × (left ≤ 5) × (key < 512 ^ (5 - left)) × ((q : KeyRead) → ForKnown words codes passed (λ ps. ArgsHave s i depth left key ps q) → ForKnown words codes passed (λ ps. ArgsHave s at depth 5 0 ps q))
+gather-Inv-loop s at depth words codes newest i₀ left₀ key₀ b₀ i left key b =
+    ByteAt s i b × (left ≤ 5) × (key < 512 ^ (5 - left)) × ((q : KeyRead) → ForKnown words codes newest (λ ps. ArgsHave s i depth left key ps q) → ForKnown words codes newest (λ ps. ArgsHave s at depth 5 0 ps q))
 
 abbrev gather-μ-loop : gather-lts.MeasureT-loop
-gather-μ-loop s at depth words codes passed i₀ left₀ key₀ b₀ i left key b = left
+gather-μ-loop s at depth words codes newest i₀ left₀ key₀ b₀ i left key b = left
 
 abbrev gather-claims : ℕ → gather-lts.Claims
 gather-claims t = (byte-reads.Asked, byte-reads.Learnt, kind-at-below t, kind-at.Post)

@@ -1,27 +1,31 @@
 -- `sheets::kind_walk::find_kind` meets its contract. Assumes nothing.
 use native.Mathlib.Omega.{arith}
 use Prim.Native.Nat.{_≤_}
-use mathlib.Core.Path.{_≡_, refl, sym, _∙_}
+use mathlib.Core.Path.{_≡_, sym, _∙_}
 use borrow.Author.Needs.{needs}
 use Rattle.sheets.specs.Text.{Word}
 use Rattle.sheets.specs.Codes.{codeOf}
+use Rattle.sheets.specs.Newest.{newestOf}
 use Rattle.sheets.specs.Walking.{kindFrom}
-use Rattle.sheets.proofs.PassedLaws.{found-here, found-before, found-last}
+use Rattle.sheets.proofs.PassedLaws.{found-here, found-before, found-last, found-from}
 use Rattle.sheets.proofs.kind_walk.find_kind.Statement.{statement}
 use Rattle.sheets.proofs.kind_walk.find_kind.Tie as tie
 
 abbrev Inv-loop : tie.InvT-loop
-Inv-loop words codes passed code i₀ i =
-    (i ≤ passed) × (passed ≤ 95) × ((w : Word) → codeOf w ≡ code → kindFrom words codes i w ≡ kindFrom words codes passed w)
+Inv-loop words codes newest code i₀ i =
+    (i ≤ 95) × ((w : Word) → codeOf w ≡ code → kindFrom words codes i w ≡ kindFrom words codes (newestOf newest code) w)
 
 abbrev μ-loop : tie.MeasureT-loop
-μ-loop words codes passed code i₀ i = i
+μ-loop words codes newest code i₀ i = i
+
+newest-of-requires : tie.Need-newest-of-requires Inv-loop μ-loop
+newest-of-requires c κs = search needs
 
 returns : tie.Need-returns Inv-loop μ-loop
-returns c = record { is = λ few w hw e. absurd (omega arith) }
+returns c = record { is = λ few w hw e. absurd (omega (arith, c .before .newest-of .ensures)) }
 
 loop-holds : tie.Need-loop-holds Inv-loop μ-loop
-loop-holds c = (omega arith, omega arith, λ w e. refl)
+loop-holds c = (omega arith, λ w e. found-from _ _ w _ _ (c .before .newest-of .ensures))
 
 mul-if2 : tie.Need-mul-if2 Inv-loop μ-loop
 mul-if2 c = omega arith
@@ -33,7 +37,7 @@ element-copy-out-result : tie.Need-element-copy-out-result Inv-loop μ-loop
 element-copy-out-result c = omega arith
 
 returns-2 : tie.Need-returns-2 Inv-loop μ-loop
-returns-2 c = record { is = λ few w hw e. found-here _ _ w _ (c .before .before .before .loop-test .taken) (c .before .if2 .taken ∙ sym e) ∙ c .before .before .before .before .loop .inv .2 w e }
+returns-2 c = record { is = λ few w hw e. found-here _ _ w _ (c .before .before .before .loop-test .taken) (c .before .if2 .taken ∙ sym e) ∙ c .before .before .before .before .loop .inv .1 w e }
 
 sub-i : tie.Need-sub-i Inv-loop μ-loop
 sub-i c = omega arith
@@ -42,13 +46,13 @@ loop-less : tie.Need-loop-less Inv-loop μ-loop
 loop-less c = omega arith
 
 loop-again : tie.Need-loop-again Inv-loop μ-loop
-loop-again c = (omega arith, omega arith, λ w e. found-before _ _ w _ (c .before .before .loop-test .taken) (λ h. c .if2 .left (h ∙ e)) ∙ c .before .before .before .loop .inv .2 w e)
+loop-again c = (omega arith, λ w e. found-before _ _ w _ (c .before .before .loop-test .taken) (λ h. c .if2 .left (h ∙ e)) ∙ c .before .before .before .loop .inv .1 w e)
 
 reading-kind-requires : tie.Need-reading-kind-requires Inv-loop μ-loop
 reading-kind-requires c κs = search needs
 
 returns-3 : tie.Need-returns-3 Inv-loop μ-loop
-returns-3 c = record { is = λ few w hw e. c .reading-kind .ensures .is w hw e ∙ found-last _ _ w _ (c .before .loop-test .left) ∙ c .before .before .loop .inv .2 w e }
+returns-3 c = record { is = λ few w hw e. c .reading-kind .ensures .is w hw e ∙ found-last _ _ w _ (c .before .loop-test .left) ∙ c .before .before .loop .inv .1 w e }
 
 pub find-kind-spec : {M : Type 1} → statement M
 find-kind-spec =
@@ -56,6 +60,7 @@ find-kind-spec =
     (tie.spec
     Inv-loop
     μ-loop
+    newest-of-requires
     returns
     loop-holds
     mul-if2

@@ -7,35 +7,35 @@ use lib.ListN.{length, length-replicate, length-set}
 use Rattle.sheets.specs.declared.answers.RunAnswer.{RunAnswer}
 use Rattle.sheets.specs.Slots.{noNames}
 use Rattle.sheets.specs.Running.{orFound, slotFound, readingFound, Runs}
-use Rattle.sheets.proofs.OperandLaws.{Upto, upto-none, upto-skip, upto-put, Seeks, seek-start, seek-hit, seek-miss, known-is}
+use Rattle.sheets.proofs.OperandLaws.{Upto, upto-none, upto-skip, upto-put, Seeks, NewestIn, newest-start, newest-again, seek-start, seek-hit, seek-miss, known-is}
 use Rattle.sheets.proofs.RunSteps.{runs-end, runs-over, runs-stops, runs-sticks, runs-gives, runs-shows, part-short, no-names-length, names-start}
 use borrow.Author.Needs.{needs}
 use Rattle.sheets.proofs.lines_run.run_lines.Statement.{statement}
 use Rattle.sheets.proofs.lines_run.run_lines.Tie as tie
 
 abbrev Inv-loop3 : tie.InvT-loop3
-Inv-loop3 s start e readings out t kinds rows at number n written to l p code found₀ j₀ found j = Seeks n t code found j
+Inv-loop3 s start e readings out t newest kinds rows at number n written to l p code found₀ j₀ found j = Seeks n t code found j
 
 abbrev μ-loop3 : tie.MeasureT-loop3
-μ-loop3 s start e readings out t kinds rows at number n written to l p code found₀ j₀ found j = j
+μ-loop3 s start e readings out t newest kinds rows at number n written to l p code found₀ j₀ found j = j
 
 abbrev Inv-loop2 : tie.InvT-loop2
-Inv-loop2 s start e readings out t kinds₀ rows₀ at number n written to l p₀ kinds rows p = (p ≤ length l) × (length l ≤ 200) × Upto l kinds rows (λ c. orFound (slotFound n t c) (readingFound c readings)) p
+Inv-loop2 s start e readings out t newest kinds₀ rows₀ at number n written to l p₀ kinds rows p = (p ≤ length l) × (length l ≤ 200) × Upto l kinds rows (λ c. orFound (slotFound n t c) (readingFound c readings)) p
 
 abbrev μ-loop2 : tie.MeasureT-loop2
-μ-loop2 s start e readings out t kinds₀ rows₀ at number n written to l p₀ kinds rows p = length l - p
+μ-loop2 s start e readings out t newest kinds₀ rows₀ at number n written to l p₀ kinds rows p = length l - p
 
 abbrev Inv-loop : tie.InvT-loop
-Inv-loop s start e readings out₀ t₀ kinds₀ rows₀ at₀ number₀ n₀ written₀ out t kinds rows at number n written = (length kinds ≡ 101) × (length rows ≡ 101) × (length t ≡ 96) × (n + 2 ≤ number) × (number ≤ 97) × (length out ≡ length out₀) × ((q : RunAnswer) (o : List ℕ) → Runs s e readings out₀ at number t n written out q o → Runs s e readings out₀ start 2 noNames 0 0 out₀ q o)
+Inv-loop s start e readings out₀ t₀ newest₀ kinds₀ rows₀ at₀ number₀ n₀ written₀ out t newest kinds rows at number n written = (length kinds ≡ 101) × (length rows ≡ 101) × (length t ≡ 96) × (n + 2 ≤ number) × (number ≤ 97) × (length out ≡ length out₀) × ((q : RunAnswer) (o : List ℕ) → Runs s e readings out₀ at number t n written out q o → Runs s e readings out₀ start 2 noNames 0 0 out₀ q o) × NewestIn t n newest
 
 abbrev μ-loop : tie.MeasureT-loop
-μ-loop s start e readings out₀ t₀ kinds₀ rows₀ at₀ number₀ n₀ written₀ out t kinds rows at number n written = 97 - number
+μ-loop s start e readings out₀ t₀ newest₀ kinds₀ rows₀ at₀ number₀ n₀ written₀ out t newest kinds rows at number n written = 97 - number
 
 no-names-requires : tie.Need-no-names-requires Inv-loop3 μ-loop3 Inv-loop2 μ-loop2 Inv-loop μ-loop
 no-names-requires c κs = search needs
 
 loop-holds : tie.Need-loop-holds Inv-loop3 μ-loop3 Inv-loop2 μ-loop2 Inv-loop μ-loop
-loop-holds c = (simp length-replicate, simp length-replicate, no-names-length _ (c .no-names .ensures), omega arith, omega arith, refl, λ q o h. names-start _ _ _ _ _ _ (c .no-names .ensures) q o h)
+loop-holds c = (simp length-replicate, simp length-replicate, no-names-length _ (c .no-names .ensures), omega arith, omega arith, refl, λ q o h. names-start _ _ _ _ _ _ (c .no-names .ensures) q o h, newest-start _)
 
 run-answer-requires : tie.Need-run-answer-requires Inv-loop3 μ-loop3 Inv-loop2 μ-loop2 Inv-loop μ-loop
 run-answer-requires c κs = search needs
@@ -79,8 +79,11 @@ loop2-less c = omega arith
 loop2-again : tie.Need-loop2-again Inv-loop3 μ-loop3 Inv-loop2 μ-loop2 Inv-loop μ-loop
 loop2-again c = (omega arith, c .before .before .before .before .loop2 .inv .1, upto-skip _ _ _ _ _ (c .before .before .before .before .loop2 .inv .2) _ (c .before .before .word-slot .ensures) (c .enum-told .given .1))
 
+newest-of-requires : tie.Need-newest-of-requires Inv-loop3 μ-loop3 Inv-loop2 μ-loop2 Inv-loop μ-loop
+newest-of-requires c κs = search needs
+
 loop3-holds : tie.Need-loop3-holds Inv-loop3 μ-loop3 Inv-loop2 μ-loop2 Inv-loop μ-loop
-loop3-holds c = seek-start _ _ _
+loop3-holds c = seek-start _ _ _ (c .before .before .before .before .before .before .before .before .before .before .before .before .loop .inv .7) _ _ (c .newest-of .ensures)
 
 sub-j : tie.Need-sub-j Inv-loop3 μ-loop3 Inv-loop2 μ-loop2 Inv-loop μ-loop
 sub-j c = omega arith
@@ -89,19 +92,19 @@ mul-x : tie.Need-mul-x Inv-loop3 μ-loop3 Inv-loop2 μ-loop2 Inv-loop μ-loop
 mul-x c = search needs
 
 array-copy-out-x : tie.Need-array-copy-out-x Inv-loop3 μ-loop3 Inv-loop2 μ-loop2 Inv-loop μ-loop
-array-copy-out-x c = omega (arith, c .before .loop3 .inv .below, c .before .before .before .before .before .before .before .before .before .before .before .before .loop .inv .2, c .before .before .before .before .before .before .before .before .before .before .before .before .loop .inv .3, c .before .before .before .before .before .before .before .before .before .before .before .loop-test .taken)
+array-copy-out-x c = omega (arith, c .before .loop3 .inv .below, c .before .before .before .before .before .before .before .before .before .before .before .before .before .before .loop .inv .2, c .before .before .before .before .before .before .before .before .before .before .before .before .before .before .loop .inv .3, c .before .before .before .before .before .before .before .before .before .before .before .before .before .loop-test .taken)
 
 loop3-less : tie.Need-loop3-less Inv-loop3 μ-loop3 Inv-loop2 μ-loop2 Inv-loop μ-loop
 loop3-less c = omega arith
 
 loop3-again : tie.Need-loop3-again Inv-loop3 μ-loop3 Inv-loop2 μ-loop2 Inv-loop μ-loop
-loop3-again c = seek-hit _ _ _ _ _ (c .before .before .before .loop3-test .taken) (c .before .before .before .before .loop3 .inv) _ (omega (arith, c .before .before .before .before .loop3 .inv .below, c .before .before .before .before .before .before .before .before .before .before .before .before .before .before .before .loop .inv .2, c .before .before .before .before .before .before .before .before .before .before .before .before .before .before .before .loop .inv .3, c .before .before .before .before .before .before .before .before .before .before .before .before .before .before .loop-test .taken)) (c .if2 .taken)
+loop3-again c = seek-hit _ _ _ _ _ (c .before .before .before .loop3-test .taken) (c .before .before .before .before .loop3 .inv) _ (omega (arith, c .before .before .before .before .loop3 .inv .below, c .before .before .before .before .before .before .before .before .before .before .before .before .before .before .before .before .before .loop .inv .2, c .before .before .before .before .before .before .before .before .before .before .before .before .before .before .before .before .before .loop .inv .3, c .before .before .before .before .before .before .before .before .before .before .before .before .before .before .before .before .loop-test .taken)) (c .if2 .taken)
 
 loop3-less-2 : tie.Need-loop3-less-2 Inv-loop3 μ-loop3 Inv-loop2 μ-loop2 Inv-loop μ-loop
 loop3-less-2 c = omega arith
 
 loop3-again-2 : tie.Need-loop3-again-2 Inv-loop3 μ-loop3 Inv-loop2 μ-loop2 Inv-loop μ-loop
-loop3-again-2 c = seek-miss _ _ _ _ _ (c .before .before .before .loop3-test .taken) (c .before .before .before .before .loop3 .inv) _ (omega (arith, c .before .before .before .before .loop3 .inv .below, c .before .before .before .before .before .before .before .before .before .before .before .before .before .before .before .loop .inv .2, c .before .before .before .before .before .before .before .before .before .before .before .before .before .before .before .loop .inv .3, c .before .before .before .before .before .before .before .before .before .before .before .before .before .before .loop-test .taken)) (c .if2 .left)
+loop3-again-2 c = seek-miss _ _ _ _ _ (c .before .before .before .loop3-test .taken) (c .before .before .before .before .loop3 .inv) _ (omega (arith, c .before .before .before .before .loop3 .inv .below, c .before .before .before .before .before .before .before .before .before .before .before .before .before .before .before .before .before .loop .inv .2, c .before .before .before .before .before .before .before .before .before .before .before .before .before .before .before .before .before .loop .inv .3, c .before .before .before .before .before .before .before .before .before .before .before .before .before .before .before .before .loop-test .taken)) (c .if2 .left)
 
 or-reading-requires : tie.Need-or-reading-requires Inv-loop3 μ-loop3 Inv-loop2 μ-loop2 Inv-loop μ-loop
 or-reading-requires c κs = search needs
@@ -110,7 +113,7 @@ add-put-found : tie.Need-add-put-found Inv-loop3 μ-loop3 Inv-loop2 μ-loop2 Inv
 add-put-found c = omega arith
 
 put-found-requires : tie.Need-put-found-requires Inv-loop3 μ-loop3 Inv-loop2 μ-loop2 Inv-loop μ-loop
-put-found-requires c κs = omega (arith, c .before .before .before .before .before .before .before .before .before .before .loop2 .inv .1)
+put-found-requires c κs = omega (arith, c .before .before .before .before .before .before .before .before .before .before .before .before .loop2 .inv .1)
 
 add-p-2 : tie.Need-add-p-2 Inv-loop3 μ-loop3 Inv-loop2 μ-loop2 Inv-loop μ-loop
 add-p-2 c = omega arith
@@ -119,7 +122,7 @@ loop2-less-2 : tie.Need-loop2-less-2 Inv-loop3 μ-loop3 Inv-loop2 μ-loop2 Inv-l
 loop2-less-2 c = omega arith
 
 loop2-again-2 : tie.Need-loop2-again-2 Inv-loop3 μ-loop3 Inv-loop2 μ-loop2 Inv-loop μ-loop
-loop2-again-2 c = (omega arith, c .before .before .before .before .before .before .before .before .before .before .before .loop2 .inv .1, upto-put _ _ _ _ _ (c .before .before .before .before .before .before .before .before .before .before .before .loop2 .inv .2) (omega (arith, c .before .before .before .before .before .before .before .before .before .before .before .loop2 .inv .1)) _ (c .before .before .before .before .before .before .before .before .before .word-slot .ensures) _ _ (c .before .before .before .before .before .before .before .w .given .1) _ (known-is _ _ _ _ _ (c .before .before .before .before .loop3-test .left) (c .before .before .before .before .before .loop3 .inv) _ _ (c .before .before .before .or-reading .ensures)) _ (c .put-found .ensures .0) _ (c .put-found .ensures .1))
+loop2-again-2 c = (omega arith, c .before .before .before .before .before .before .before .before .before .before .before .before .before .loop2 .inv .1, upto-put _ _ _ _ _ (c .before .before .before .before .before .before .before .before .before .before .before .before .before .loop2 .inv .2) (omega (arith, c .before .before .before .before .before .before .before .before .before .before .before .before .before .loop2 .inv .1)) _ (c .before .before .before .before .before .before .before .before .before .before .before .word-slot .ensures) _ _ (c .before .before .before .before .before .before .before .before .before .w .given .1) _ (known-is _ _ _ _ _ (c .before .before .before .before .loop3-test .left) (c .before .before .before .before .before .loop3 .inv) _ _ (c .before .before .before .or-reading .ensures)) _ (c .put-found .ensures .0) _ (c .put-found .ensures .1))
 
 line-effect-requires : tie.Need-line-effect-requires Inv-loop3 μ-loop3 Inv-loop2 μ-loop2 Inv-loop μ-loop
 line-effect-requires c κs = search needs
@@ -160,6 +163,12 @@ array-set-from-t c = omega (arith, c .before .before .before .before .before .be
 add-n : tie.Need-add-n Inv-loop3 μ-loop3 Inv-loop2 μ-loop2 Inv-loop μ-loop
 add-n c = omega arith
 
+cast-put-newest : tie.Need-cast-put-newest Inv-loop3 μ-loop3 Inv-loop2 μ-loop2 Inv-loop μ-loop
+cast-put-newest c = omega (arith, c .before .before .before .before .before .before .before .before .before .before .before .before .before .loop .inv .3, c .before .before .before .before .before .before .before .before .before .before .before .before .loop-test .taken)
+
+put-newest-requires : tie.Need-put-newest-requires Inv-loop3 μ-loop3 Inv-loop2 μ-loop2 Inv-loop μ-loop
+put-newest-requires c κs = search needs
+
 add-number : tie.Need-add-number Inv-loop3 μ-loop3 Inv-loop2 μ-loop2 Inv-loop μ-loop
 add-number c = omega arith
 
@@ -167,7 +176,7 @@ loop-less : tie.Need-loop-less Inv-loop3 μ-loop3 Inv-loop2 μ-loop2 Inv-loop μ
 loop-less c = omega arith
 
 loop-again : tie.Need-loop-again Inv-loop3 μ-loop3 Inv-loop2 μ-loop2 Inv-loop μ-loop
-loop-again c = (c .before .before .before .before .before .before .before .loop2 .inv .2 .kinds, c .before .before .before .before .before .before .before .loop2 .inv .2 .rows, simp length-set (c .before .before .before .before .before .before .before .before .before .before .before .before .loop .inv .2), omega (arith, c .before .before .before .before .before .before .before .before .before .before .before .before .loop .inv .3), omega arith, c .before .before .before .before .before .before .before .before .before .before .before .before .loop .inv .5, λ q o h. c .before .before .before .before .before .before .before .before .before .before .before .before .loop .inv .6 q o (runs-gives _ _ _ _ _ _ _ _ _ _ (omega (arith, c .before .before .before .before .before .before .before .before .before .before .before .before .loop .inv .3)) (c .before .before .before .before .before .before .before .before .before .before .before .loop-test .taken) (c .before .before .before .before .before .before .before .before .before .before .if1 .left) _ (c .before .before .before .before .before .before .before .before .before .next-line .ensures) _ _ _ (c .before .before .before .before .before .before .loop2-test .left) (c .before .before .before .before .before .before .before .loop2 .inv .2) _ (c .before .before .before .line-effect .ensures) _ _ (c .before .r2 .given .1) (omega (arith, c .before .before .before .before .before .before .before .before .before .before .before .before .loop .inv .2, c .before .before .before .before .before .before .before .before .before .before .before .before .loop .inv .3, c .before .before .before .before .before .before .before .before .before .before .before .loop-test .taken)) _ refl q o h))
+loop-again c = (c .before .before .before .before .before .before .before .before .before .loop2 .inv .2 .kinds, c .before .before .before .before .before .before .before .before .before .loop2 .inv .2 .rows, simp length-set (c .before .before .before .before .before .before .before .before .before .before .before .before .before .before .loop .inv .2), omega (arith, c .before .before .before .before .before .before .before .before .before .before .before .before .before .before .loop .inv .3), omega arith, c .before .before .before .before .before .before .before .before .before .before .before .before .before .before .loop .inv .5, λ q o h. c .before .before .before .before .before .before .before .before .before .before .before .before .before .before .loop .inv .6 q o (runs-gives _ _ _ _ _ _ _ _ _ _ (omega (arith, c .before .before .before .before .before .before .before .before .before .before .before .before .before .before .loop .inv .3)) (c .before .before .before .before .before .before .before .before .before .before .before .before .before .loop-test .taken) (c .before .before .before .before .before .before .before .before .before .before .before .before .if1 .left) _ (c .before .before .before .before .before .before .before .before .before .before .before .next-line .ensures) _ _ _ (c .before .before .before .before .before .before .before .before .loop2-test .left) (c .before .before .before .before .before .before .before .before .before .loop2 .inv .2) _ (c .before .before .before .before .before .line-effect .ensures) _ _ (c .before .before .before .r2 .given .1) (omega (arith, c .before .before .before .before .before .before .before .before .before .before .before .before .before .before .loop .inv .2, c .before .before .before .before .before .before .before .before .before .before .before .before .before .before .loop .inv .3, c .before .before .before .before .before .before .before .before .before .before .before .before .before .loop-test .taken)) _ refl q o h), newest-again _ _ _ (c .before .before .before .before .before .before .before .before .before .before .before .before .before .before .loop .inv .7) (omega (arith, c .before .before .before .before .before .before .before .before .before .before .before .before .before .before .loop .inv .2, c .before .before .before .before .before .before .before .before .before .before .before .before .before .before .loop .inv .3, c .before .before .before .before .before .before .before .before .before .before .before .before .before .loop-test .taken)) _ _ refl _ (c .put-newest .ensures))
 
 enum-known-r-3 : tie.Need-enum-known-r-3 Inv-loop3 μ-loop3 Inv-loop2 μ-loop2 Inv-loop μ-loop
 enum-known-r-3 c = search needs
@@ -182,7 +191,7 @@ loop-less-2 : tie.Need-loop-less-2 Inv-loop3 μ-loop3 Inv-loop2 μ-loop2 Inv-loo
 loop-less-2 c = omega arith
 
 loop-again-2 : tie.Need-loop-again-2 Inv-loop3 μ-loop3 Inv-loop2 μ-loop2 Inv-loop μ-loop
-loop-again-2 c = (c .before .before .before .before .before .before .before .before .before .before .before .loop2 .inv .2 .kinds, c .before .before .before .before .before .before .before .before .before .before .before .loop2 .inv .2 .rows, c .before .before .before .before .before .before .before .before .before .before .before .before .before .before .before .before .loop .inv .2, omega (arith, c .before .before .before .before .before .before .before .before .before .before .before .before .before .before .before .before .loop .inv .3), omega arith, c .before .before .output-line .kept .1 .1 .1 .1 .0 ∙ c .before .before .before .before .before .before .before .before .before .before .before .before .before .before .before .before .loop .inv .5, λ q o h. c .before .before .before .before .before .before .before .before .before .before .before .before .before .before .before .before .loop .inv .6 q o (runs-shows _ _ _ _ _ _ _ _ _ _ (omega (arith, c .before .before .before .before .before .before .before .before .before .before .before .before .before .before .before .before .loop .inv .3)) (c .before .before .before .before .before .before .before .before .before .before .before .before .before .before .before .loop-test .taken) (c .before .before .before .before .before .before .before .before .before .before .before .before .before .before .if1 .left) _ (c .before .before .before .before .before .before .before .before .before .before .before .before .before .next-line .ensures) _ _ _ (c .before .before .before .before .before .before .before .before .before .before .loop2-test .left) (c .before .before .before .before .before .before .before .before .before .before .before .loop2 .inv .2) _ (c .before .before .before .before .before .before .before .line-effect .ensures) _ _ (c .before .before .before .before .before .r3 .given .1) _ _ (c .before .before .output-line .ensures) q o h))
+loop-again-2 c = (c .before .before .before .before .before .before .before .before .before .before .before .loop2 .inv .2 .kinds, c .before .before .before .before .before .before .before .before .before .before .before .loop2 .inv .2 .rows, c .before .before .before .before .before .before .before .before .before .before .before .before .before .before .before .before .loop .inv .2, omega (arith, c .before .before .before .before .before .before .before .before .before .before .before .before .before .before .before .before .loop .inv .3), omega arith, c .before .before .output-line .kept .1 .1 .1 .1 .0 ∙ c .before .before .before .before .before .before .before .before .before .before .before .before .before .before .before .before .loop .inv .5, λ q o h. c .before .before .before .before .before .before .before .before .before .before .before .before .before .before .before .before .loop .inv .6 q o (runs-shows _ _ _ _ _ _ _ _ _ _ (omega (arith, c .before .before .before .before .before .before .before .before .before .before .before .before .before .before .before .before .loop .inv .3)) (c .before .before .before .before .before .before .before .before .before .before .before .before .before .before .before .loop-test .taken) (c .before .before .before .before .before .before .before .before .before .before .before .before .before .before .if1 .left) _ (c .before .before .before .before .before .before .before .before .before .before .before .before .before .next-line .ensures) _ _ _ (c .before .before .before .before .before .before .before .before .before .before .loop2-test .left) (c .before .before .before .before .before .before .before .before .before .before .before .loop2 .inv .2) _ (c .before .before .before .before .before .before .before .line-effect .ensures) _ _ (c .before .before .before .before .before .r3 .given .1) _ _ (c .before .before .output-line .ensures) q o h), c .before .before .before .before .before .before .before .before .before .before .before .before .before .before .before .before .loop .inv .7)
 
 run-answer-requires-4 : tie.Need-run-answer-requires-4 Inv-loop3 μ-loop3 Inv-loop2 μ-loop2 Inv-loop μ-loop
 run-answer-requires-4 c κs = search needs
@@ -219,6 +228,7 @@ run-lines-spec =
     add-p
     loop2-less
     loop2-again
+    newest-of-requires
     loop3-holds
     sub-j
     mul-x
@@ -246,6 +256,8 @@ run-lines-spec =
     mul-t
     array-set-from-t
     add-n
+    cast-put-newest
+    put-newest-requires
     add-number
     loop-less
     loop-again
