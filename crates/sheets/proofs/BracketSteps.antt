@@ -9,7 +9,6 @@ use lib.Ieee.{Float}
 use Rattle.frames.specs.declared.ellipsoid.Ellipsoid.{Ellipsoid}
 use Rattle.frames.specs.declared.frame.LocalFrame.{LocalFrame}
 use Rattle.sheets.specs.declared.value.Value.{Value}
-use Rattle.sheets.specs.declared.args.Args.{Args}
 use Rattle.sheets.specs.declared.args.Applied.{Applied}
 use Rattle.sheets.specs.declared.bytes.WordRead.{WordRead}
 use Rattle.sheets.specs.declared.expr.Read.{Read}
@@ -24,7 +23,7 @@ use Rattle.sheets.specs.Lookup.{find}
 use Rattle.sheets.specs.Refusals.{stop, refusalNumber}
 use Rattle.sheets.specs.Reader.{Got, got, readWord, readArgs, readExpr}
 use Rattle.sheets.specs.Views.{place, coded}
-use Rattle.sheets.specs.Applied.{applied, Applies, values}
+use Rattle.sheets.specs.Applied.{applied, Applies}
 use Rattle.sheets.specs.Machine.{Out, goes, stops, sticks, after, then as thenᵒ, test, met, made, applyRow, eval, evals}
 use Rattle.sheets.proofs.ReaderLaws.{close-read}
 use Rattle.sheets.proofs.Inverse.{not-read, arg-read, form-read}

@@ -1,16 +1,16 @@
 -- The evaluator, a step at a time: what follows from each answer that the code met on the way. Assumes nothing.
-use Prim.Native.Nat.{ℕ, _+_, _-_, _/_, _<_}
+use Prim.Native.Nat.{ℕ, suc, _+_, _-_, _/_, _<_, _≤_}
 use native.Mathlib.Omega.{arith}
 use mathlib.Core.Path.{_≡_, refl, sym, ap, _∙_}
 use mathlib.Core.Bool.{true, false}
 use mathlib.Core.Option.{Option, none, some}
 use mathlib.Core.List.{List, [], _∷_, _++_}
-use lib.ListN.{getD, length, length-append}
+use lib.ListN.{getD, length, take, set}
+use lib.Seq.{take-suc-set}
 use lib.Ieee.{Float}
 use Rattle.frames.specs.declared.ellipsoid.Ellipsoid.{Ellipsoid}
 use Rattle.sheets.specs.declared.value.Value.{Value}
 use Rattle.sheets.specs.declared.value.Value.the-variants.{Number}
-use Rattle.sheets.specs.declared.args.Args.{Args}
 use Rattle.sheets.specs.declared.bytes.WordRead.{WordRead}
 use Rattle.sheets.specs.declared.num.DoubleRead.{DoubleRead}
 use Rattle.sheets.specs.declared.expr.Read.{Read}
@@ -20,12 +20,10 @@ use Rattle.sheets.specs.Limits.{inLimit}
 use Rattle.sheets.specs.Names.{Known, lookup}
 use Rattle.sheets.specs.Reader.{none as noGot, got, _then_, readWord, readNum, orNum, readLeaf, readExpr}
 use Rattle.sheets.specs.Views.{place, coded, doubled}
-use Rattle.sheets.specs.Applied.{values, pushed}
 use Rattle.sheets.specs.Machine.{test, met, meet, eval}
 use Rattle.sheets.proofs.ReaderLaws.{expr-leaf}
 use Rattle.sheets.proofs.Viewed.{coded-none, coded-got, doubled-none, doubled-got}
 use Rattle.sheets.proofs.Inverse.{not-read}
-use Rattle.sheets.proofs.AppliedLaws.{values-push}
 use Rattle.sheets.specs.Operands.{operand, foundOf}
 use Rattle.sheets.specs.Evaluating.{evaluated, EvalsWith, LeafWith}
 use Rattle.sheets.specs.declared.operands.Found.{Found}
@@ -105,8 +103,8 @@ evals-bad s at depth e ks fs r h = record { is = λ ps rd p ep sp. record { is =
 pub evals-leaf : (s : List ℕ) (at b : ℕ) → b ≡ getD s at 0 → (depth : ℕ) (e : Ellipsoid) (ks : List ℕ) (fs : List (List Float)) → (b ≡ 40 → ⊥) → (r : Evaluated) → LeafWith s at ks fs r → EvalsWith s at depth e ks fs r
 evals-leaf s at b eb depth e ks fs h r l = record { is = λ ps rd p ep sp. record { is = λ x n g. l .is ps rd p ep sp e x n (sym (expr-leaf s at b eb depth h) ∙ g) } }
 
--- fewer than five arguments and one more
-pub push-more : (a : Args) (v : Value) (left : ℕ) → length (values a) + left ≡ 5 → 0 < left → (b : Args) → b ≡ pushed a v → (values b ≡ values a ++ (v ∷ [])) × (length (values b) + (left - 1) ≡ 5)
-push-more a v left h p b eb =
-    let e : values b ≡ values a ++ (v ∷ []) = ap values eb ∙ values-push a v (omega arith) in
-    (e, omega (arith, ap length e ∙ length-append (values a) (v ∷ [])))
+-- one argument more of five
+pub push-more : (a : List Value) (v : Value) (left : ℕ) → length a ≡ 5 → 0 < left → left ≤ 5 → take (5 - (left - 1)) (set a (5 - left) v) ≡ take (5 - left) a ++ (v ∷ [])
+push-more a v left h low high =
+    let e : 5 - (left - 1) ≡ suc (5 - left) = omega arith in
+    ap (λ k. take k (set a (5 - left) v)) e ∙ take-suc-set a (5 - left) v (omega arith)

@@ -213,8 +213,8 @@ slots-are t c zero h d l = absurd (omega arith)
 slots-are t c (suc k) h d l = rw (inside t (suc k - 1) d emptySlot l, sub-one) refl
 
 module _ (n : ℕ) (t : List Slot) (c : ℕ) (found : Found) (j : ℕ) (h : 0 < j) (i : Seeks n t c found j) (d : Slot) (l : j - 1 < length t) where
-  pub seek-hit : getD t (j - 1) d .word ≡ c → Seeks n t c (Found.Value (getD t (j - 1) d .value)) 0
-  seek-hit q = record { below = omega (arith, i .below); none = λ z. absurd (omega arith); rest = rw (i .none h, slots-are t c j h d l, eq-eqb _ _ q) at (i .rest) }
+  pub seek-hit : getD t (j - 1) d .word ≡ c → (x : Found) → x ≡ Found.Value (getD t (j - 1) d .value) → Seeks n t c x 0
+  seek-hit q x e = record { below = omega (arith, i .below); none = λ z. absurd (omega arith); rest = rw e (rw (i .none h, slots-are t c j h d l, eq-eqb _ _ q) at (i .rest)) }
 
   pub seek-miss : (getD t (j - 1) d .word ≡ c → ⊥) → Seeks n t c found (j - 1)
   seek-miss q = record { below = omega (arith, i .below); none = λ z. i .none h; rest = rw (i .none h) (rw (i .none h, slots-are t c j h d l, ne-eqb _ _ q) at (i .rest)) }

@@ -8,8 +8,6 @@ use Rattle.frames.specs.declared.ellipsoid.Ellipsoid.{Ellipsoid}
 use Rattle.frames.specs.declared.orientation.Orientation.{Orientation}
 use Rattle.frames.specs.declared.orientation.Orientation.the-variants.{Enu, Ned, Body, Wan}
 use Rattle.sheets.specs.declared.value.Value.{Value}
-use Rattle.sheets.specs.declared.args.Args.{Args}
-use Rattle.sheets.specs.declared.args.Args.the-variants.{None, One, Two, Three, Four, Five}
 use Rattle.sheets.specs.declared.args.Applied.{Applied}
 use Rattle.sheets.specs.declared.args.Applied.the-variants.{Value as value, NoRow, Centre}
 use Rattle.sheets.specs.declared.args.Lengths.{Lengths}
@@ -39,23 +37,6 @@ pub record Applies (e : Ellipsoid) (code : ℕ) (vs : List Value) (r : Applied) 
   pub is : (w : Word) → IsWord w → codeOf w ≡ code → r ≡ applied e (find table w vs)
 
 -- ---- the arguments
-
-abbrev pub values : Args → List Value
-values None = []
-values (One p) = p ∷ []
-values (Two p q) = p ∷ q ∷ []
-values (Three p q j) = p ∷ q ∷ j ∷ []
-values (Four p q j s) = p ∷ q ∷ j ∷ s ∷ []
-values (Five p q j s t) = p ∷ q ∷ j ∷ s ∷ t ∷ []
-
--- with one more; a bracket has at most five
-abbrev pub pushed : Args → Value → Args
-pushed None x = One x
-pushed (One p) x = Two p x
-pushed (Two p q) x = Three p q x
-pushed (Three p q j) x = Four p q j x
-pushed (Four p q j s) x = Five p q j s x
-pushed (Five p q j s t) x = Five p q j s t
 
 abbrev pub lengths : Lengths → Option (Holds (𝐥 ∷ 𝐥 ∷ 𝐥 ∷ []))
 lengths (Lengths.Are x y z) = some (x, (y, (z, tt)))

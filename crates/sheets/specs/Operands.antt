@@ -29,6 +29,21 @@ floatAt f at = getD f at nan
 abbrev pub vecAt : List Float → ℕ → ℕ → ℕ → Vec3
 vecAt f i j k = record { x = floatAt f i; y = floatAt f j; z = floatAt f k }
 
+abbrev pub numberIn : List Float → Found
+numberIn f = Found.Value (Number (floatAt f 0))
+
+abbrev pub angleIn : List Float → Found
+angleIn f = Found.Value (Radians (record { 0 = floatAt f 0 }))
+
+abbrev pub lengthIn : List Float → Found
+lengthIn f = Found.Value (Metres (record { 0 = floatAt f 0 }))
+
+abbrev pub geocentricIn : List Float → Found
+geocentricIn f = Found.Value (Geocentric (record { x = record { 0 = floatAt f 0 }; y = record { 0 = floatAt f 1 }; z = record { 0 = floatAt f 2 } }))
+
+abbrev pub geodeticIn : List Float → Found
+geodeticIn f = Found.Value (Geodetic (record { hp = record { 0 = vecAt f 0 1 2 }; height = record { 0 = floatAt f 3 } }))
+
 abbrev pub vectorIn : List Float → Orientation → Found
 vectorIn f o = Found.Value (Vector (record { x = record { 0 = floatAt f 0 }; y = record { 0 = floatAt f 1 }; z = record { 0 = floatAt f 2 }; orientation = o }))
 
@@ -43,11 +58,11 @@ frameIn f o =
 
 unfoldable pub unpacked : ℕ → List Float → Found
 unpacked k f =
-    when (eqb k 0) (Found.Value (Number (floatAt f 0)))
-    (when (eqb k 1) (Found.Value (Radians (record { 0 = floatAt f 0 })))
-    (when (eqb k 2) (Found.Value (Metres (record { 0 = floatAt f 0 })))
-    (when (eqb k 3) (Found.Value (Geocentric (record { x = record { 0 = floatAt f 0 }; y = record { 0 = floatAt f 1 }; z = record { 0 = floatAt f 2 } })))
-    (when (eqb k 4) (Found.Value (Geodetic (record { hp = record { 0 = vecAt f 0 1 2 }; height = record { 0 = floatAt f 3 } })))
+    when (eqb k 0) (numberIn f)
+    (when (eqb k 1) (angleIn f)
+    (when (eqb k 2) (lengthIn f)
+    (when (eqb k 3) (geocentricIn f)
+    (when (eqb k 4) (geodeticIn f)
     (when (eqb k 5) (vectorIn f Enu)
     (when (eqb k 6) (vectorIn f Ned)
     (when (eqb k 7) (vectorIn f Body)

@@ -1,6 +1,10 @@
-// The arguments that an operator is given, views of them, and what it answers.
+// What an operator answers, and views of its arguments.
 use crate::value::Value;
+use frames::frame::LocalFrame;
 use frames::orientation::Orientation;
+use frames::positions::GeocentricPosition;
+use frames::positions::GeodeticPosition;
+use frames::vector::LocalVector;
 use numbers::angle::Angle;
 use numbers::length::Length;
 ghost use mathlib.Core.Path.{_≡_};
@@ -9,17 +13,9 @@ ghost use mathlib.Core.List.{[], _∷_};
 ghost use Rattle.sheets.specs.Kinds.{place, sameOrientation};
 ghost use Rattle.sheets.specs.Letters.{hold, 𝐚, 𝐥};
 ghost use Rattle.sheets.specs.Table.{notBody, enuOrNed};
-ghost use Rattle.sheets.specs.Applied.{pushed, lengths, aer};
-
-// The arguments of a bracket.
-pub enum Args {
-    None,
-    One(Value),
-    Two(Value, Value),
-    Three(Value, Value, Value),
-    Four(Value, Value, Value, Value),
-    Five(Value, Value, Value, Value, Value),
-}
+ghost use Rattle.sheets.specs.Applied.{lengths, aer};
+ghost use Rattle.sheets.specs.declared.value.Value.{Value};
+ghost use Rattle.sheets.specs.declared.args.Applied.{Applied};
 
 // What an operator makes of its arguments: a value, nothing as no row fits, or nothing as the position is too near the centre.
 pub enum Applied {
@@ -40,18 +36,41 @@ pub enum Aer {
     Not,
 }
 
-// The arguments with one more. A bracket has at most five: a sixth is dropped.
-pub fn push(a: Args, v: Value) -> Args
-    ensures { λ r. ⌜ r ≡ pushed a v ⌝ }
+// An answer of each kind but n, which no operator gives.
+pub fn gives_angle(x: Angle) -> Applied
+    ensures { λ r. ⌜ r ≡ Applied.Value (Value.Radians x) ⌝ }
 {
-    match a {
-        Args::None => Args::One(v),
-        Args::One(p) => Args::Two(p, v),
-        Args::Two(p, q) => Args::Three(p, q, v),
-        Args::Three(p, q, j) => Args::Four(p, q, j, v),
-        Args::Four(p, q, j, s) => Args::Five(p, q, j, s, v),
-        Args::Five(p, q, j, s, t) => Args::Five(p, q, j, s, t),
-    }
+    Applied::Value(Value::Radians(x))
+}
+
+pub fn gives_length(x: Length) -> Applied
+    ensures { λ r. ⌜ r ≡ Applied.Value (Value.Metres x) ⌝ }
+{
+    Applied::Value(Value::Metres(x))
+}
+
+pub fn gives_geocentric(x: GeocentricPosition) -> Applied
+    ensures { λ r. ⌜ r ≡ Applied.Value (Value.Geocentric x) ⌝ }
+{
+    Applied::Value(Value::Geocentric(x))
+}
+
+pub fn gives_geodetic(x: GeodeticPosition) -> Applied
+    ensures { λ r. ⌜ r ≡ Applied.Value (Value.Geodetic x) ⌝ }
+{
+    Applied::Value(Value::Geodetic(x))
+}
+
+pub fn gives_vector(x: LocalVector) -> Applied
+    ensures { λ r. ⌜ r ≡ Applied.Value (Value.Vector x) ⌝ }
+{
+    Applied::Value(Value::Vector(x))
+}
+
+pub fn gives_frame(x: LocalFrame) -> Applied
+    ensures { λ r. ⌜ r ≡ Applied.Value (Value.Frame x) ⌝ }
+{
+    Applied::Value(Value::Frame(x))
 }
 
 // An orientation's place in the order of document 01.

@@ -1,13 +1,13 @@
 // An operator at its arguments: by their count, then by the code of the operator's word.
 use crate::args::Applied;
-use crate::args::Args;
 use crate::frame_rows;
 use crate::rows;
 use crate::value::Value;
 use frames::ellipsoid::Ellipsoid;
 use frames::orientation::Orientation;
 ghost use mathlib.Core.List.{[], _∷_};
-ghost use Rattle.sheets.specs.Applied.{values, Applies};
+ghost use lib.ListN.{take};
+ghost use Rattle.sheets.specs.Applied.{Applies};
 
 pub fn apply_one(e: Ellipsoid, code: u64, p: Value) -> Applied
     ensures { λ r. ⌜ Applies e code (p ∷ []) r ⌝ }
@@ -92,15 +92,62 @@ pub fn apply_five(
     }
 }
 
-pub fn apply(e: Ellipsoid, code: u64, a: Args) -> Applied
-    ensures { λ r. ⌜ Applies e code (values a) r ⌝ }
+// The same of the first arguments of a list, which are copied out of it.
+fn first_one(e: Ellipsoid, code: u64, a: [Value; 5]) -> Applied
+    ensures { λ r. ⌜ Applies e code (take 1 a) r ⌝ }
 {
-    match a {
-        Args::None => Applied::NoRow,
-        Args::One(p) => apply_one(e, code, p),
-        Args::Two(p, q) => apply_two(e, code, p, q),
-        Args::Three(p, q, j) => apply_three(e, code, p, q, j),
-        Args::Four(p, q, j, s) => apply_four(e, code, p, q, j, s),
-        Args::Five(p, q, j, s, t) => apply_five(e, code, p, q, j, s, t),
+    let p = a[0];
+    apply_one(e, code, p)
+}
+
+fn first_two(e: Ellipsoid, code: u64, a: [Value; 5]) -> Applied
+    ensures { λ r. ⌜ Applies e code (take 2 a) r ⌝ }
+{
+    let p = a[0];
+    let q = a[1];
+    apply_two(e, code, p, q)
+}
+
+fn first_three(e: Ellipsoid, code: u64, a: [Value; 5]) -> Applied
+    ensures { λ r. ⌜ Applies e code (take 3 a) r ⌝ }
+{
+    let p = a[0];
+    let q = a[1];
+    let j = a[2];
+    apply_three(e, code, p, q, j)
+}
+
+fn first_four(e: Ellipsoid, code: u64, a: [Value; 5]) -> Applied
+    ensures { λ r. ⌜ Applies e code (take 4 a) r ⌝ }
+{
+    let p = a[0];
+    let q = a[1];
+    let j = a[2];
+    let s = a[3];
+    apply_four(e, code, p, q, j, s)
+}
+
+fn all_five(e: Ellipsoid, code: u64, a: [Value; 5]) -> Applied
+    ensures { λ r. ⌜ Applies e code a r ⌝ }
+{
+    let p = a[0];
+    let q = a[1];
+    let j = a[2];
+    let s = a[3];
+    let t = a[4];
+    apply_five(e, code, p, q, j, s, t)
+}
+
+// The operator at the first n arguments of five places.
+pub fn apply(e: Ellipsoid, code: u64, a: [Value; 5], n: usize) -> Applied
+    ensures { λ r. ⌜ Applies e code (take n a) r ⌝ }
+{
+    match n {
+        0 => Applied::NoRow,
+        1 => first_one(e, code, a),
+        2 => first_two(e, code, a),
+        3 => first_three(e, code, a),
+        4 => first_four(e, code, a),
+        _ => all_five(e, code, a),
     }
 }

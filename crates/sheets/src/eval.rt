@@ -1,7 +1,5 @@
 // The evaluator: it calls itself with the bracket depth left falling. A value is tested where it is met, a bracket's after its row.
 use crate::args::Applied;
-use crate::args::Args;
-use crate::args::push;
 use crate::bytes::WordRead;
 use crate::bytes::byte;
 use crate::bytes::word;
@@ -15,7 +13,7 @@ use crate::value::Value;
 use frames::ellipsoid::Ellipsoid;
 ghost use mathlib.Core.Path.{_≡_};
 ghost use mathlib.Core.List.{[]};
-ghost use Rattle.sheets.specs.Applied.{values};
+ghost use lib.ListN.{take};
 ghost use Rattle.sheets.specs.Machine.{met};
 ghost use Rattle.sheets.specs.Evaluating.{evaluated, EvalsWith, LeafWith, RowHas, BracketWith};
 
@@ -60,11 +58,11 @@ fn leaf(s: &[u8], at: usize, kinds: &[u8; 101], rows: &[[f64; 21]; 101]) -> Eval
     }
 }
 
-// The row for the word with this code over a bracket's arguments, which end at a place: refusal 8, the row, refusal 7.
-fn row_value(e: Ellipsoid, code: u64, a: Args, end: usize) -> Evaluated
-    ensures { λ r. ⌜ RowHas e code (values a) end r ⌝ }
+// The row for the word with this code over a bracket's n arguments, which end at a place: refusal 8, the row, refusal 7.
+fn row_value(e: Ellipsoid, code: u64, a: [Value; 5], n: usize, end: usize) -> Evaluated
+    ensures { λ r. ⌜ RowHas e code (take n a) end r ⌝ }
 {
-    let r = apply(e, code, a);
+    let r = apply(e, code, a, n);
     match r {
         Applied::Value(v) => tested(v, end),
         Applied::NoRow => Evaluated::Sticks,
@@ -111,11 +109,11 @@ pub fn bracket(
 {
     let mut i = at;
     let mut left: usize = 5;
-    let mut a = Args::None;
+    let mut a = [Value::Number(0.0); 5];
     while 0 < left {
         let b = byte(s, i);
         if b == 41 {
-            return row_value(e, code, a, i + 1);
+            return row_value(e, code, a, 5 - left, i + 1);
         }
         if b == 32 {
             let r = eval(s, i + 1, depth, e, kinds, rows);
@@ -127,7 +125,7 @@ pub fn bracket(
                     return Evaluated::Stops(k);
                 }
                 Evaluated::Is(v, end) => {
-                    a = push(a, v);
+                    a[5 - left] = v;
                     i = end;
                     left -= 1;
                 }
@@ -138,7 +136,7 @@ pub fn bracket(
     }
     let b = byte(s, i);
     if b == 41 {
-        return row_value(e, code, a, i + 1);
+        return row_value(e, code, a, 5 - left, i + 1);
     }
     Evaluated::Sticks
 }

@@ -1,5 +1,8 @@
 // The rows that convert a position or make a frame: each is one function of the frame crate, at values of the row's kinds.
 use crate::args::Applied;
+use crate::args::gives_frame;
+use crate::args::gives_geocentric;
+use crate::args::gives_geodetic;
 use crate::args::not_body;
 use crate::args::same_orientation;
 use crate::limits::is_far;
@@ -19,7 +22,7 @@ pub fn apply_togeo(e: Ellipsoid, p: Value) -> Applied
     let Value::Geodetic(x) = p else {
         return Applied::NoRow;
     };
-    Applied::Value(Value::Geocentric(e.geodetic_to_geocentric_position(x)))
+    gives_geocentric(e.geodetic_to_geocentric_position(x))
 }
 
 pub fn apply_tolla(e: Ellipsoid, p: Value) -> Applied
@@ -29,7 +32,7 @@ pub fn apply_tolla(e: Ellipsoid, p: Value) -> Applied
         return Applied::NoRow;
     };
     if is_far(e, x) {
-        Applied::Value(Value::Geodetic(e.geocentric_to_geodetic_position(x)))
+        gives_geodetic(e.geocentric_to_geodetic_position(x))
     } else {
         Applied::Centre
     }
@@ -41,12 +44,12 @@ pub fn apply_enu(e: Ellipsoid, p: Value) -> Applied
     match p {
         Value::Geocentric(g) => {
             if is_far(e, g) {
-                Applied::Value(Value::Frame(LocalFrame::enu_from_geocentric(g, e)))
+                gives_frame(LocalFrame::enu_from_geocentric(g, e))
             } else {
                 Applied::Centre
             }
         }
-        Value::Geodetic(d) => Applied::Value(Value::Frame(LocalFrame::enu_from_geodetic(d, e))),
+        Value::Geodetic(d) => gives_frame(LocalFrame::enu_from_geodetic(d, e)),
         _ => Applied::NoRow,
     }
 }
@@ -57,12 +60,12 @@ pub fn apply_ned(e: Ellipsoid, p: Value) -> Applied
     match p {
         Value::Geocentric(g) => {
             if is_far(e, g) {
-                Applied::Value(Value::Frame(LocalFrame::ned_from_geocentric(g, e)))
+                gives_frame(LocalFrame::ned_from_geocentric(g, e))
             } else {
                 Applied::Centre
             }
         }
-        Value::Geodetic(d) => Applied::Value(Value::Frame(LocalFrame::ned_from_geodetic(d, e))),
+        Value::Geodetic(d) => gives_frame(LocalFrame::ned_from_geodetic(d, e)),
         _ => Applied::NoRow,
     }
 }
@@ -76,16 +79,12 @@ pub fn apply_wan(e: Ellipsoid, p: Value, q: Value) -> Applied
     match q {
         Value::Geocentric(g) => {
             if is_far(e, g) {
-                Applied::Value(Value::Frame(LocalFrame::wander_azimuth_from_geocentric(x, g, e)))
+                gives_frame(LocalFrame::wander_azimuth_from_geocentric(x, g, e))
             } else {
                 Applied::Centre
             }
         }
-        Value::Geodetic(d) => Applied::Value(Value::Frame(LocalFrame::wander_azimuth_from_geodetic(
-            x,
-            d,
-            e,
-        ))),
+        Value::Geodetic(d) => gives_frame(LocalFrame::wander_azimuth_from_geodetic(x, d, e)),
         _ => Applied::NoRow,
     }
 }
@@ -105,18 +104,12 @@ pub fn apply_body(e: Ellipsoid, p: Value, q: Value, j: Value, s: Value) -> Appli
     match s {
         Value::Geocentric(g) => {
             if is_far(e, g) {
-                Applied::Value(Value::Frame(LocalFrame::body_from_geocentric(x, y, z, g, e)))
+                gives_frame(LocalFrame::body_from_geocentric(x, y, z, g, e))
             } else {
                 Applied::Centre
             }
         }
-        Value::Geodetic(d) => Applied::Value(Value::Frame(LocalFrame::body_from_geodetic(
-            x,
-            y,
-            z,
-            d,
-            e,
-        ))),
+        Value::Geodetic(d) => gives_frame(LocalFrame::body_from_geodetic(x, y, z, d, e)),
         _ => Applied::NoRow,
     }
 }
@@ -133,7 +126,7 @@ pub fn apply_look(e: Ellipsoid, p: Value, q: Value, j: Value) -> Applied
                 return Applied::NoRow;
             };
             if is_far(e, g) {
-                Applied::Value(Value::Frame(LocalFrame::looking_at_geocentric(g, h, x, e)))
+                gives_frame(LocalFrame::looking_at_geocentric(g, h, x, e))
             } else {
                 Applied::Centre
             }
@@ -145,7 +138,7 @@ pub fn apply_look(e: Ellipsoid, p: Value, q: Value, j: Value) -> Applied
             let Value::Radians(x) = j else {
                 return Applied::NoRow;
             };
-            Applied::Value(Value::Frame(LocalFrame::looking_at_geodetic(d, h, x, e)))
+            gives_frame(LocalFrame::looking_at_geodetic(d, h, x, e))
         }
         _ => Applied::NoRow,
     }
@@ -162,7 +155,7 @@ pub fn apply_turn(e: Ellipsoid, p: Value, q: Value) -> Applied
     };
     let o = f.orientation;
     if not_body(o) {
-        Applied::Value(Value::Frame(f.rotate_around_z(x)))
+        gives_frame(f.rotate_around_z(x))
     } else {
         Applied::NoRow
     }
@@ -189,7 +182,7 @@ pub fn apply_move(e: Ellipsoid, p: Value, q: Value, j: Value, s: Value, t: Value
     let o = f.orientation;
     let u = v.orientation;
     if same_orientation(o, u) {
-        Applied::Value(Value::Frame(f.transform(v, x, y, z)))
+        gives_frame(f.transform(v, x, y, z))
     } else {
         Applied::NoRow
     }

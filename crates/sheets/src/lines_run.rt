@@ -17,6 +17,7 @@ use crate::value::no_names;
 use frames::ellipsoid::Ellipsoid;
 ghost use mathlib.Core.Path.{_≡_};
 ghost use Rattle.sheets.specs.Slots.{noNames};
+ghost use Rattle.sheets.specs.declared.operands.Found.{Found};
 ghost use Rattle.sheets.specs.Running.{readingIndex, readingFound, orFound, Runs};
 
 // The number of the reading whose word has this code; 16 for none.
@@ -42,6 +43,14 @@ fn reading_index(code: u64) -> usize
         25710 => 15,
         _ => 16,
     }
+}
+
+// What a slot holds.
+fn held(x: Slot) -> Found
+    ensures { λ r. ⌜ r ≡ Found.Value (x .value) ⌝ }
+{
+    let v = x.value;
+    Found::Value(v)
 }
 
 // A reading by its word's code.
@@ -107,8 +116,7 @@ pub fn run_lines(
                 j -= 1;
                 let x = t[j];
                 if x.word == code {
-                    let v = x.value;
-                    found = Found::Value(v);
+                    found = held(x);
                     j = 0;
                     continue;
                 }

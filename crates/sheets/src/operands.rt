@@ -17,12 +17,54 @@ ghost use mathlib.Core.Path.{_≡_};
 ghost use Prim.Native.Nat.{_<_};
 ghost use lib.ListN.{set};
 ghost use Rattle.sheets.specs.Kinds.{kindOf, kindCode};
-ghost use Rattle.sheets.specs.Operands.{vecAt, vectorIn, frameIn, unpacked, operand, short, floatsOf, codeFor, rowsWith};
+ghost use Rattle.sheets.specs.Operands.{vecAt, numberIn, angleIn, lengthIn, geocentricIn, geodeticIn, vectorIn, frameIn, unpacked, operand, short, floatsOf, codeFor, rowsWith};
 
 // What a word stands for.
 pub enum Found {
     Value(Value),
     Unknown,
+}
+
+// The value of each kind whose floats a row has.
+fn number_in(f: [f64; 21]) -> Found
+    ensures { λ r. ⌜ r ≡ numberIn f ⌝ }
+{
+    Found::Value(Value::Number(f[0]))
+}
+
+fn angle_in(f: [f64; 21]) -> Found
+    ensures { λ r. ⌜ r ≡ angleIn f ⌝ }
+{
+    Found::Value(Value::Radians(Angle(f[0])))
+}
+
+fn length_in(f: [f64; 21]) -> Found
+    ensures { λ r. ⌜ r ≡ lengthIn f ⌝ }
+{
+    Found::Value(Value::Metres(Length(f[0])))
+}
+
+fn geocentric_in(f: [f64; 21]) -> Found
+    ensures { λ r. ⌜ r ≡ geocentricIn f ⌝ }
+{
+    Found::Value(Value::Geocentric(GeocentricPosition {
+        x: Length(f[0]),
+        y: Length(f[1]),
+        z: Length(f[2]),
+    }))
+}
+
+fn geodetic_in(f: [f64; 21]) -> Found
+    ensures { λ r. ⌜ r ≡ geodeticIn f ⌝ }
+{
+    Found::Value(Value::Geodetic(GeodeticPosition {
+        hp: NVector(Vec3 {
+            x: f[0],
+            y: f[1],
+            z: f[2],
+        }),
+        height: Length(f[3]),
+    }))
 }
 
 fn vector_in(f: [f64; 21], o: Orientation) -> Found
@@ -99,27 +141,16 @@ fn frame_in(f: [f64; 21], o: Orientation) -> Found
     }))
 }
 
-// The value of a kind whose floats a row has.
+// The value of the kind with this code.
 fn unpack(kind: u8, f: [f64; 21]) -> Found
     ensures { λ r. ⌜ r ≡ unpacked kind f ⌝ }
 {
     match kind {
-        0 => Found::Value(Value::Number(f[0])),
-        1 => Found::Value(Value::Radians(Angle(f[0]))),
-        2 => Found::Value(Value::Metres(Length(f[0]))),
-        3 => Found::Value(Value::Geocentric(GeocentricPosition {
-            x: Length(f[0]),
-            y: Length(f[1]),
-            z: Length(f[2]),
-        })),
-        4 => Found::Value(Value::Geodetic(GeodeticPosition {
-            hp: NVector(Vec3 {
-                x: f[0],
-                y: f[1],
-                z: f[2],
-            }),
-            height: Length(f[3]),
-        })),
+        0 => number_in(f),
+        1 => angle_in(f),
+        2 => length_in(f),
+        3 => geocentric_in(f),
+        4 => geodetic_in(f),
         5 => vector_in(f, Orientation::Enu),
         6 => vector_in(f, Orientation::Ned),
         7 => vector_in(f, Orientation::Body),

@@ -4,6 +4,11 @@ use crate::args::Applied;
 use crate::args::Lengths;
 use crate::args::aer_of;
 use crate::args::enu_or_ned;
+use crate::args::gives_angle;
+use crate::args::gives_geocentric;
+use crate::args::gives_geodetic;
+use crate::args::gives_length;
+use crate::args::gives_vector;
 use crate::args::lengths_of;
 use crate::args::same_orientation;
 use crate::value::Value;
@@ -29,7 +34,7 @@ pub fn apply_deg(e: Ellipsoid, p: Value) -> Applied
     let Value::Number(x) = p else {
         return Applied::NoRow;
     };
-    Applied::Value(Value::Radians(Angle::from_degrees(x)))
+    gives_angle(Angle::from_degrees(x))
 }
 
 pub fn apply_m(e: Ellipsoid, p: Value) -> Applied
@@ -38,7 +43,7 @@ pub fn apply_m(e: Ellipsoid, p: Value) -> Applied
     let Value::Number(x) = p else {
         return Applied::NoRow;
     };
-    Applied::Value(Value::Metres(Length::from_metres(x)))
+    gives_length(Length::from_metres(x))
 }
 
 pub fn apply_geo(e: Ellipsoid, p: Value, q: Value, j: Value) -> Applied
@@ -46,11 +51,7 @@ pub fn apply_geo(e: Ellipsoid, p: Value, q: Value, j: Value) -> Applied
 {
     let t = lengths_of(p, q, j);
     match t {
-        Lengths::Are(x, y, z) => Applied::Value(Value::Geocentric(GeocentricPosition::new(
-            x,
-            y,
-            z,
-        ))),
+        Lengths::Are(x, y, z) => gives_geocentric(GeocentricPosition::new(x, y, z)),
         Lengths::Not => Applied::NoRow,
     }
 }
@@ -62,7 +63,7 @@ pub fn apply_lla(e: Ellipsoid, p: Value, q: Value, j: Value) -> Applied
     match t {
         Aer::Are(x, y, z) => {
             let n = NVector::from_lat_long(x, y);
-            Applied::Value(Value::Geodetic(GeodeticPosition::new(n, z)))
+            gives_geodetic(GeodeticPosition::new(n, z))
         }
         Aer::Not => Applied::NoRow,
     }
@@ -74,7 +75,7 @@ pub fn apply_vector(e: Ellipsoid, o: Orientation, p: Value, q: Value, j: Value) 
 {
     let t = lengths_of(p, q, j);
     match t {
-        Lengths::Are(x, y, z) => Applied::Value(Value::Vector(LocalVector::new(o, x, y, z))),
+        Lengths::Are(x, y, z) => gives_vector(LocalVector::new(o, x, y, z)),
         Lengths::Not => Applied::NoRow,
     }
 }
@@ -85,7 +86,7 @@ pub fn apply_aer(e: Ellipsoid, o: Orientation, p: Value, q: Value, j: Value) -> 
 {
     let t = aer_of(p, q, j);
     match t {
-        Aer::Are(x, y, z) => Applied::Value(Value::Vector(LocalVector::from_aer(o, x, y, z))),
+        Aer::Are(x, y, z) => gives_vector(LocalVector::from_aer(o, x, y, z)),
         Aer::Not => Applied::NoRow,
     }
 }
@@ -99,7 +100,7 @@ pub fn apply_to(e: Ellipsoid, p: Value, q: Value) -> Applied
     let Value::Geocentric(g) = q else {
         return Applied::NoRow;
     };
-    Applied::Value(Value::Vector(f.local_vector_to(g)))
+    gives_vector(f.local_vector_to(g))
 }
 
 pub fn apply_at(e: Ellipsoid, p: Value, q: Value) -> Applied
@@ -114,7 +115,7 @@ pub fn apply_at(e: Ellipsoid, p: Value, q: Value) -> Applied
     let o = f.orientation;
     let u = v.orientation;
     if same_orientation(o, u) {
-        Applied::Value(Value::Geocentric(f.destination_position(v)))
+        gives_geocentric(f.destination_position(v))
     } else {
         Applied::NoRow
     }
@@ -126,7 +127,7 @@ pub fn apply_neg(e: Ellipsoid, p: Value) -> Applied
     let Value::Vector(v) = p else {
         return Applied::NoRow;
     };
-    Applied::Value(Value::Vector(v.neg()))
+    gives_vector(v.neg())
 }
 
 pub fn apply_add(e: Ellipsoid, p: Value, q: Value) -> Applied
@@ -141,7 +142,7 @@ pub fn apply_add(e: Ellipsoid, p: Value, q: Value) -> Applied
     let o = v.orientation;
     let u = w.orientation;
     if same_orientation(o, u) {
-        Applied::Value(Value::Vector(v.add(w)))
+        gives_vector(v.add(w))
     } else {
         Applied::NoRow
     }
@@ -159,7 +160,7 @@ pub fn apply_sub(e: Ellipsoid, p: Value, q: Value) -> Applied
     let o = v.orientation;
     let u = w.orientation;
     if same_orientation(o, u) {
-        Applied::Value(Value::Vector(v.sub(w)))
+        gives_vector(v.sub(w))
     } else {
         Applied::NoRow
     }
@@ -174,7 +175,7 @@ pub fn apply_scale(e: Ellipsoid, p: Value, q: Value) -> Applied
     let Value::Number(k) = q else {
         return Applied::NoRow;
     };
-    Applied::Value(Value::Vector(v.mul(k)))
+    gives_vector(v.mul(k))
 }
 
 pub fn apply_swap(e: Ellipsoid, p: Value) -> Applied
@@ -185,7 +186,7 @@ pub fn apply_swap(e: Ellipsoid, p: Value) -> Applied
     };
     let o = v.orientation;
     if enu_or_ned(o) {
-        Applied::Value(Value::Vector(v.swap()))
+        gives_vector(v.swap())
     } else {
         Applied::NoRow
     }
@@ -197,7 +198,7 @@ pub fn apply_bearing(e: Ellipsoid, p: Value) -> Applied
     let Value::Vector(v) = p else {
         return Applied::NoRow;
     };
-    Applied::Value(Value::Radians(v.bearing()))
+    gives_angle(v.bearing())
 }
 
 pub fn apply_elev(e: Ellipsoid, p: Value) -> Applied
@@ -206,7 +207,7 @@ pub fn apply_elev(e: Ellipsoid, p: Value) -> Applied
     let Value::Vector(v) = p else {
         return Applied::NoRow;
     };
-    Applied::Value(Value::Radians(v.elevation()))
+    gives_angle(v.elevation())
 }
 
 pub fn apply_range(e: Ellipsoid, p: Value) -> Applied
@@ -215,7 +216,7 @@ pub fn apply_range(e: Ellipsoid, p: Value) -> Applied
     let Value::Vector(v) = p else {
         return Applied::NoRow;
     };
-    Applied::Value(Value::Metres(v.slant_range()))
+    gives_length(v.slant_range())
 }
 
 pub fn apply_origin(e: Ellipsoid, p: Value) -> Applied
@@ -224,7 +225,7 @@ pub fn apply_origin(e: Ellipsoid, p: Value) -> Applied
     let Value::Frame(f) = p else {
         return Applied::NoRow;
     };
-    Applied::Value(Value::Geocentric(f.origin()))
+    gives_geocentric(f.origin())
 }
 
 pub fn apply_rz(e: Ellipsoid, p: Value) -> Applied
@@ -236,7 +237,7 @@ pub fn apply_rz(e: Ellipsoid, p: Value) -> Applied
     let m = f.dir_rm;
     let t = r2zyx(m);
     let a = t.z;
-    Applied::Value(Value::Radians(a))
+    gives_angle(a)
 }
 
 pub fn apply_ry(e: Ellipsoid, p: Value) -> Applied
@@ -248,7 +249,7 @@ pub fn apply_ry(e: Ellipsoid, p: Value) -> Applied
     let m = f.dir_rm;
     let t = r2zyx(m);
     let a = t.y;
-    Applied::Value(Value::Radians(a))
+    gives_angle(a)
 }
 
 pub fn apply_rx(e: Ellipsoid, p: Value) -> Applied
@@ -260,5 +261,5 @@ pub fn apply_rx(e: Ellipsoid, p: Value) -> Applied
     let m = f.dir_rm;
     let t = r2zyx(m);
     let a = t.x;
-    Applied::Value(Value::Radians(a))
+    gives_angle(a)
 }

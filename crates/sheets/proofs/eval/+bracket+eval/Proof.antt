@@ -1,13 +1,12 @@
 -- `bracket` and `eval`, which call each other, meet their contracts. Assumes nothing.
 use native.Mathlib.Omega.{arith}
-use Prim.Native.Nat.{ℕ, _*_, _+_, _<_, _≤_}
+use Prim.Native.Nat.{ℕ, _*_, _+_, _-_, _<_, _≤_}
 use mathlib.Core.Path.{_≡_, refl, sym, _∙_}
 use mathlib.Core.List.{[]}
-use lib.ListN.{length}
+use lib.ListN.{length, take, length-set}
 use borrow.Author.Needs.{needs}
 use borrow.Fn.Kinds.{In}
 use borrow.Fn.PlainCycle.{Measures, is, falls, and}
-use Rattle.sheets.specs.Applied.{values}
 use Rattle.sheets.specs.Evaluating.{BracketWith}
 use Rattle.sheets.specs.declared.eval.Evaluated.{Evaluated}
 use Rattle.sheets.proofs.ExprSteps.{args-none, args-other, expr-deep, expr-no-word}
@@ -21,7 +20,6 @@ use Rattle.sheets.proofs.eval.bracket.Kinds as bracket-kinds
 use Rattle.sheets.proofs.eval.+bracket+eval.Lts-bracket as bracket-lts
 use Rattle.sheets.proofs.eval.leaf.Reads as leaf-reads
 use Rattle.sheets.proofs.eval.row_value.Reads as row-value-reads
-use Rattle.sheets.proofs.args.push.Reads as push-reads
 use Rattle.sheets.proofs.bytes.byte.Reads as byte-reads
 use Rattle.sheets.proofs.bytes.word.Reads as word-reads
 use Rattle.sheets.proofs.eval.+bracket+eval.{statement}
@@ -55,7 +53,7 @@ abbrev eval-claims : ℕ → eval-lts.Claims
 eval-claims t = (byte-reads.Asked, byte-reads.Learnt, word-reads.Asked, word-reads.Learnt, bracket-below t, bracket.Post, leaf-reads.Asked, leaf-reads.Learnt)
 
 abbrev bracket-claims : ℕ → bracket-lts.Claims
-bracket-claims t = (byte-reads.Asked, byte-reads.Learnt, row-value-reads.Asked, row-value-reads.Learnt, eval-below t, eval.Post, push-reads.Asked, push-reads.Learnt)
+bracket-claims t = (byte-reads.Asked, byte-reads.Learnt, row-value-reads.Asked, row-value-reads.Learnt, eval-below t, eval.Post)
 
 eval-byte-requires : (t : ℕ) → eval-lts.Need-byte-requires (eval-claims t) (eval-at t) eval.Post
 eval-byte-requires t c κs = search needs
@@ -94,16 +92,19 @@ eval-returns-4 : (t : ℕ) → eval-lts.Need-returns-4 (eval-claims t) (eval-at 
 eval-returns-4 t c = evals-leaf _ _ _ (c .before .before .byte .ensures .is) _ _ _ _ (c .before .if1 .left) _ (c .leaf .ensures)
 
 abbrev bracket-Inv-loop : bracket-lts.InvT-loop
-bracket-Inv-loop s at depth e code kinds rows i₀ left₀ a₀ i left a = (length (values a) + left ≡ 5) × ((q : Evaluated) → BracketWith s i depth left e code kinds rows (values a) q → BracketWith s at depth 5 e code kinds rows [] q)
+bracket-Inv-loop s at depth e code kinds rows i₀ left₀ a₀ i left a = (left ≤ 5) × ((q : Evaluated) → BracketWith s i depth left e code kinds rows (take (5 - left) a) q → BracketWith s at depth 5 e code kinds rows [] q) × (length a ≡ 5)
 
 abbrev bracket-μ-loop : bracket-lts.MeasureT-loop
 bracket-μ-loop s at depth e code kinds rows i₀ left₀ a₀ i left a = left
 
 bracket-loop-holds : (t : ℕ) → bracket-lts.Need-loop-holds (bracket-claims t) (bracket-at t) bracket.Post bracket-Inv-loop bracket-μ-loop
-bracket-loop-holds t c = (refl, λ q h. h)
+bracket-loop-holds t c = (omega arith, λ q h. h, refl)
 
 bracket-byte-requires : (t : ℕ) → bracket-lts.Need-byte-requires (bracket-claims t) (bracket-at t) bracket.Post bracket-Inv-loop bracket-μ-loop
 bracket-byte-requires t c κs = search needs
+
+bracket-sub-row-value : (t : ℕ) → bracket-lts.Need-sub-row-value (bracket-claims t) (bracket-at t) bracket.Post bracket-Inv-loop bracket-μ-loop
+bracket-sub-row-value t c = omega arith
 
 bracket-add-row-value : (t : ℕ) → bracket-lts.Need-add-row-value (bracket-claims t) (bracket-at t) bracket.Post bracket-Inv-loop bracket-μ-loop
 bracket-add-row-value t c = omega arith
@@ -135,8 +136,14 @@ bracket-returns-3 t c = c .before .before .before .before .before .before .befor
 bracket-enum-known-r-2 : (t : ℕ) → bracket-lts.Need-enum-known-r-2 (bracket-claims t) (bracket-at t) bracket.Post bracket-Inv-loop bracket-μ-loop
 bracket-enum-known-r-2 t c = search needs
 
-bracket-push-requires : (t : ℕ) → bracket-lts.Need-push-requires (bracket-claims t) (bracket-at t) bracket.Post bracket-Inv-loop bracket-μ-loop
-bracket-push-requires t c κs = search needs
+bracket-sub-a : (t : ℕ) → bracket-lts.Need-sub-a (bracket-claims t) (bracket-at t) bracket.Post bracket-Inv-loop bracket-μ-loop
+bracket-sub-a t c = omega arith
+
+bracket-mul-a : (t : ℕ) → bracket-lts.Need-mul-a (bracket-claims t) (bracket-at t) bracket.Post bracket-Inv-loop bracket-μ-loop
+bracket-mul-a t c = search needs
+
+bracket-array-set-from-a : (t : ℕ) → bracket-lts.Need-array-set-from-a (bracket-claims t) (bracket-at t) bracket.Post bracket-Inv-loop bracket-μ-loop
+bracket-array-set-from-a t c = omega arith
 
 bracket-sub-left : (t : ℕ) → bracket-lts.Need-sub-left (bracket-claims t) (bracket-at t) bracket.Post bracket-Inv-loop bracket-μ-loop
 bracket-sub-left t c = omega arith
@@ -145,13 +152,16 @@ bracket-loop-less : (t : ℕ) → bracket-lts.Need-loop-less (bracket-claims t) 
 bracket-loop-less t c = omega arith
 
 bracket-loop-again : (t : ℕ) → bracket-lts.Need-loop-again (bracket-claims t) (bracket-at t) bracket.Post bracket-Inv-loop bracket-μ-loop
-bracket-loop-again t c = let p = push-more (c .before .before .before .before .before .before .before .before .before .loop .a) (c .before .before .r2 .given .0 .0) _ (c .before .before .before .before .before .before .before .before .before .loop .inv .0) (c .before .before .before .before .before .before .before .before .loop-test .taken) _ (c .push .ensures) in (p .1, λ q h. c .before .before .before .before .before .before .before .before .before .loop .inv .1 q (record { is = λ ps rd. bracket-more _ _ _ (c .before .before .before .before .before .before .before .byte .ensures .is) _ _ _ _ _ _ (c .before .before .before .before .before .before .if1 .left) (not-zero _ (c .before .before .before .before .before .before .before .before .loop-test .taken)) (c .before .before .before .before .before .if2 .taken) _ (c .before .before .before .before .eval .ensures .is ps rd _ refl (sym (c .before .before .before .before .before .before .before .byte .ensures .is) ∙ c .before .before .before .before .before .if2 .taken)) _ _ (c .before .before .r2 .given .1) _ (p .0) q (h .is ps rd) }))
+bracket-loop-again t c = let p = push-more _ (c .before .r2 .given .0 .0) _ (c .before .before .before .before .before .before .before .before .loop .inv .2) (c .before .before .before .before .before .before .before .loop-test .taken) (c .before .before .before .before .before .before .before .before .loop .inv .0) in (omega (arith, c .before .before .before .before .before .before .before .before .loop .inv .0), λ q h. c .before .before .before .before .before .before .before .before .loop .inv .1 q (record { is = λ ps rd. bracket-more _ _ _ (c .before .before .before .before .before .before .byte .ensures .is) _ _ _ _ _ _ (c .before .before .before .before .before .if1 .left) (not-zero _ (c .before .before .before .before .before .before .before .loop-test .taken)) (c .before .before .before .before .if2 .taken) _ (c .before .before .before .eval .ensures .is ps rd _ refl (sym (c .before .before .before .before .before .before .byte .ensures .is) ∙ c .before .before .before .before .if2 .taken)) _ _ (c .before .r2 .given .1) _ p q (h .is ps rd) }), simp length-set (c .before .before .before .before .before .before .before .before .loop .inv .2))
 
 bracket-returns-4 : (t : ℕ) → bracket-lts.Need-returns-4 (bracket-claims t) (bracket-at t) bracket.Post bracket-Inv-loop bracket-μ-loop
 bracket-returns-4 t c = c .before .before .before .before .loop .inv .1 _ (record { is = λ ps rd. bracket-bad _ _ _ _ _ _ _ _ _ (args-other _ _ _ _ (c .before .before .byte .ensures .is) _ (c .before .if1 .left) (c .if2 .left)) })
 
 bracket-byte-requires-2 : (t : ℕ) → bracket-lts.Need-byte-requires-2 (bracket-claims t) (bracket-at t) bracket.Post bracket-Inv-loop bracket-μ-loop
 bracket-byte-requires-2 t c κs = search needs
+
+bracket-sub-row-value-2 : (t : ℕ) → bracket-lts.Need-sub-row-value-2 (bracket-claims t) (bracket-at t) bracket.Post bracket-Inv-loop bracket-μ-loop
+bracket-sub-row-value-2 t c = omega arith
 
 bracket-add-row-value-2 : (t : ℕ) → bracket-lts.Need-add-row-value-2 (bracket-claims t) (bracket-at t) bracket.Post bracket-Inv-loop bracket-μ-loop
 bracket-add-row-value-2 t c = omega arith
@@ -173,6 +183,7 @@ pub +bracket+eval-spec : {M : Type 1} → statement M
     bracket-μ-loop
     (bracket-loop-holds t)
     (bracket-byte-requires t)
+    (bracket-sub-row-value t)
     (bracket-add-row-value t)
     (bracket-row-value-requires t)
     (bracket-returns t)
@@ -183,12 +194,15 @@ pub +bracket+eval-spec : {M : Type 1} → statement M
     (bracket-enum-known-r t)
     (bracket-returns-3 t)
     (bracket-enum-known-r-2 t)
-    (bracket-push-requires t)
+    (bracket-sub-a t)
+    (bracket-mul-a t)
+    (bracket-array-set-from-a t)
     (bracket-sub-left t)
     (bracket-loop-less t)
     (bracket-loop-again t)
     (bracket-returns-4 t)
     (bracket-byte-requires-2 t)
+    (bracket-sub-row-value-2 t)
     (bracket-add-row-value-2 t)
     (bracket-row-value-requires-2 t)
     (bracket-returns-5 t)

@@ -38,15 +38,21 @@ is-far-requires c κs = search needs
 body-from-geocentric-requires : tie.Need-body-from-geocentric-requires
 body-from-geocentric-requires c κs = search needs
 
+gives-frame-requires : tie.Need-gives-frame-requires
+gives-frame-requires c κs = search needs
+
 enum-known-s-2 : tie.Need-enum-known-s-2
 enum-known-s-2 c = search needs
 
 body-from-geodetic-requires : tie.Need-body-from-geodetic-requires
 body-from-geodetic-requires c κs = search needs
 
+gives-frame-requires-2 : tie.Need-gives-frame-requires-2
+gives-frame-requires-2 c κs = search needs
+
 returns-4 : tie.Need-returns-4
 unfolding table find hold
-returns-4 c = rw (is-𝐚 (c .before .before .before .before .before .before .before .before .before .before .before .before .before .p .given .1), is-𝐚 (c .before .before .before .before .before .before .before .before .before .before .q .given .1), is-𝐚 (c .before .before .before .before .before .before .before .j .given .1), is-𝐠 (c .before .before .before .before .s .given .1), sym (c .before .before .is-far .ensures) ∙ c .before .if1 .taken, c .body-from-geocentric .ensures) refl
+returns-4 c = rw (c .gives-frame .ensures, is-𝐚 (c .before .before .before .before .before .before .before .before .before .before .before .before .before .before .p .given .1), is-𝐚 (c .before .before .before .before .before .before .before .before .before .before .before .q .given .1), is-𝐚 (c .before .before .before .before .before .before .before .before .j .given .1), is-𝐠 (c .before .before .before .before .before .s .given .1), sym (c .before .before .before .is-far .ensures) ∙ c .before .before .if1 .taken, c .before .body-from-geocentric .ensures) refl
 
 returns-5 : tie.Need-returns-5
 unfolding table find hold
@@ -54,7 +60,7 @@ returns-5 c = rw (is-𝐚 (c .before .before .before .before .before .before .be
 
 returns-6 : tie.Need-returns-6
 unfolding table find hold
-returns-6 c = rw (is-𝐚 (c .before .before .before .before .before .before .before .before .before .before .before .p .given .1), is-𝐚 (c .before .before .before .before .before .before .before .before .q .given .1), is-𝐚 (c .before .before .before .before .before .j .given .1), 𝐝-not-𝐠 (c .before .before .s2 .given .1), is-𝐝 (c .before .before .s2 .given .1), c .body-from-geodetic .ensures) refl
+returns-6 c = rw (c .gives-frame2 .ensures, is-𝐚 (c .before .before .before .before .before .before .before .before .before .before .before .before .p .given .1), is-𝐚 (c .before .before .before .before .before .before .before .before .before .q .given .1), is-𝐚 (c .before .before .before .before .before .before .j .given .1), 𝐝-not-𝐠 (c .before .before .before .s2 .given .1), is-𝐝 (c .before .before .before .s2 .given .1), c .before .body-from-geodetic .ensures) refl
 
 returns-7 : tie.Need-returns-7
 unfolding table find hold
@@ -73,8 +79,10 @@ apply-body-spec =
     enum-known-s
     is-far-requires
     body-from-geocentric-requires
+    gives-frame-requires
     enum-known-s-2
     body-from-geodetic-requires
+    gives-frame-requires-2
     returns-4
     returns-5
     returns-6

@@ -31,6 +31,9 @@ is-far-requires c κs = search needs
 looking-at-geocentric-requires : tie.Need-looking-at-geocentric-requires
 looking-at-geocentric-requires c κs = search needs
 
+gives-frame-requires : tie.Need-gives-frame-requires
+gives-frame-requires c κs = search needs
+
 enum-known-p-2 : tie.Need-enum-known-p-2
 enum-known-p-2 c = search needs
 
@@ -51,9 +54,12 @@ returns-4 c = rw (𝐝-not-𝐠 (c .before .before .before .before .before .p2 .
 looking-at-geodetic-requires : tie.Need-looking-at-geodetic-requires
 looking-at-geodetic-requires c κs = search needs
 
+gives-frame-requires-2 : tie.Need-gives-frame-requires-2
+gives-frame-requires-2 c κs = search needs
+
 returns-5 : tie.Need-returns-5
 unfolding table find hold
-returns-5 c = rw (is-𝐠 (c .before .before .before .before .before .before .before .before .before .before .p .given .1), is-𝐠 (c .before .before .before .before .before .before .before .q .given .1), is-𝐚 (c .before .before .before .before .j .given .1), sym (c .before .before .is-far .ensures) ∙ c .before .if1 .taken, c .looking-at-geocentric .ensures) refl
+returns-5 c = rw (c .gives-frame .ensures, is-𝐠 (c .before .before .before .before .before .before .before .before .before .before .before .p .given .1), is-𝐠 (c .before .before .before .before .before .before .before .before .q .given .1), is-𝐚 (c .before .before .before .before .before .j .given .1), sym (c .before .before .before .is-far .ensures) ∙ c .before .before .if1 .taken, c .before .looking-at-geocentric .ensures) refl
 
 returns-6 : tie.Need-returns-6
 unfolding table find hold
@@ -61,7 +67,7 @@ returns-6 c = rw (is-𝐠 (c .before .before .before .before .before .before .be
 
 returns-7 : tie.Need-returns-7
 unfolding table find hold
-returns-7 c = rw (𝐝-not-𝐠 (c .before .before .before .before .before .before .before .before .p2 .given .1), is-𝐝 (c .before .before .before .before .before .before .before .before .p2 .given .1), is-𝐝 (c .before .before .before .before .before .q2 .given .1), is-𝐚 (c .before .before .j2 .given .1), c .looking-at-geodetic .ensures) refl
+returns-7 c = rw (c .gives-frame2 .ensures, 𝐝-not-𝐠 (c .before .before .before .before .before .before .before .before .before .p2 .given .1), is-𝐝 (c .before .before .before .before .before .before .before .before .before .p2 .given .1), is-𝐝 (c .before .before .before .before .before .before .q2 .given .1), is-𝐚 (c .before .before .before .j2 .given .1), c .before .looking-at-geodetic .ensures) refl
 
 returns-8 : tie.Need-returns-8
 unfolding table find hold
@@ -78,12 +84,14 @@ apply-look-spec =
     returns-2
     is-far-requires
     looking-at-geocentric-requires
+    gives-frame-requires
     enum-known-p-2
     enum-known-q-2
     returns-3
     enum-known-j-2
     returns-4
     looking-at-geodetic-requires
+    gives-frame-requires-2
     returns-5
     returns-6
     returns-7

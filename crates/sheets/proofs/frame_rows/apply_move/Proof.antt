@@ -49,9 +49,12 @@ same-orientation-requires c κs = search needs
 transform-requires : tie.Need-transform-requires
 transform-requires c κs = search needs
 
+gives-frame-requires : tie.Need-gives-frame-requires
+gives-frame-requires c κs = search needs
+
 returns-6 : tie.Need-returns-6
 unfolding table find hold
-returns-6 c = rw (is-𝐟 (c .before .before .before .before .before .before .before .before .before .before .before .before .before .before .before .before .p .given .1), is-𝐯 (c .before .before .before .before .before .before .before .before .before .before .before .before .before .q .given .1), is-𝐚 (c .before .before .before .before .before .before .before .before .before .before .j .given .1), is-𝐚 (c .before .before .before .before .before .before .before .s .given .1), is-𝐚 (c .before .before .before .before .t .given .1), sym (c .before .before .same-orientation .ensures) ∙ c .before .if1 .taken, c .transform .ensures) refl
+returns-6 c = rw (c .gives-frame .ensures, is-𝐟 (c .before .before .before .before .before .before .before .before .before .before .before .before .before .before .before .before .before .p .given .1), is-𝐯 (c .before .before .before .before .before .before .before .before .before .before .before .before .before .before .q .given .1), is-𝐚 (c .before .before .before .before .before .before .before .before .before .before .before .j .given .1), is-𝐚 (c .before .before .before .before .before .before .before .before .s .given .1), is-𝐚 (c .before .before .before .before .before .t .given .1), sym (c .before .before .before .same-orientation .ensures) ∙ c .before .before .if1 .taken, c .before .transform .ensures) refl
 
 returns-7 : tie.Need-returns-7
 unfolding table find hold
@@ -73,5 +76,6 @@ apply-move-spec =
     returns-5
     same-orientation-requires
     transform-requires
+    gives-frame-requires
     returns-6
     returns-7)

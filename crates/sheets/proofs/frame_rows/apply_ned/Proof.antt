@@ -17,15 +17,21 @@ is-far-requires c κs = search needs
 ned-from-geocentric-requires : tie.Need-ned-from-geocentric-requires
 ned-from-geocentric-requires c κs = search needs
 
+gives-frame-requires : tie.Need-gives-frame-requires
+gives-frame-requires c κs = search needs
+
 enum-known-p-2 : tie.Need-enum-known-p-2
 enum-known-p-2 c = search needs
 
 ned-from-geodetic-requires : tie.Need-ned-from-geodetic-requires
 ned-from-geodetic-requires c κs = search needs
 
+gives-frame-requires-2 : tie.Need-gives-frame-requires-2
+gives-frame-requires-2 c κs = search needs
+
 returns : tie.Need-returns
 unfolding table find hold
-returns c = rw (is-𝐠 (c .before .before .before .before .p .given .1), sym (c .before .before .is-far .ensures) ∙ c .before .if1 .taken, c .ned-from-geocentric .ensures) refl
+returns c = rw (c .gives-frame .ensures, is-𝐠 (c .before .before .before .before .before .p .given .1), sym (c .before .before .before .is-far .ensures) ∙ c .before .before .if1 .taken, c .before .ned-from-geocentric .ensures) refl
 
 returns-2 : tie.Need-returns-2
 unfolding table find hold
@@ -33,7 +39,7 @@ returns-2 c = rw (is-𝐠 (c .before .before .before .p .given .1), sym (c .befo
 
 returns-3 : tie.Need-returns-3
 unfolding table find hold
-returns-3 c = rw (𝐝-not-𝐠 (c .before .before .p2 .given .1), is-𝐝 (c .before .before .p2 .given .1), c .ned-from-geodetic .ensures) refl
+returns-3 c = rw (c .gives-frame2 .ensures, 𝐝-not-𝐠 (c .before .before .before .p2 .given .1), is-𝐝 (c .before .before .before .p2 .given .1), c .before .ned-from-geodetic .ensures) refl
 
 returns-4 : tie.Need-returns-4
 unfolding table find hold
@@ -46,8 +52,10 @@ apply-ned-spec =
     enum-known-p
     is-far-requires
     ned-from-geocentric-requires
+    gives-frame-requires
     enum-known-p-2
     ned-from-geodetic-requires
+    gives-frame-requires-2
     returns
     returns-2
     returns-3

@@ -18,10 +18,13 @@ returns c = rw (not-𝐝 _ (c .match .keys2)) refl
 geodetic-to-geocentric-position-requires : tie.Need-geodetic-to-geocentric-position-requires
 geodetic-to-geocentric-position-requires c κs = search needs
 
+gives-geocentric-requires : tie.Need-gives-geocentric-requires
+gives-geocentric-requires c κs = search needs
+
 returns-2 : tie.Need-returns-2
 unfolding table find hold
-returns-2 c = rw (is-𝐝 (c .before .before .p .given .1), c .geodetic-to-geocentric-position .ensures) refl
+returns-2 c = rw (c .gives-geocentric .ensures, is-𝐝 (c .before .before .before .p .given .1), c .before .geodetic-to-geocentric-position .ensures) refl
 
 pub apply-togeo-spec : {M : Type 1} → statement M
 apply-togeo-spec =
-    tie.close (tie.spec enum-known-p returns geodetic-to-geocentric-position-requires returns-2)
+    tie.close (tie.spec enum-known-p returns geodetic-to-geocentric-position-requires gives-geocentric-requires returns-2)

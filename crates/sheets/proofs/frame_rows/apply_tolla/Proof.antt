@@ -21,9 +21,12 @@ is-far-requires c κs = search needs
 geocentric-to-geodetic-position-requires : tie.Need-geocentric-to-geodetic-position-requires
 geocentric-to-geodetic-position-requires c κs = search needs
 
+gives-geodetic-requires : tie.Need-gives-geodetic-requires
+gives-geodetic-requires c κs = search needs
+
 returns-2 : tie.Need-returns-2
 unfolding table find hold
-returns-2 c = rw (is-𝐠 (c .before .before .before .before .p .given .1), sym (c .before .before .is-far .ensures) ∙ c .before .if1 .taken, c .geocentric-to-geodetic-position .ensures) refl
+returns-2 c = rw (c .gives-geodetic .ensures, is-𝐠 (c .before .before .before .before .before .p .given .1), sym (c .before .before .before .is-far .ensures) ∙ c .before .before .if1 .taken, c .before .geocentric-to-geodetic-position .ensures) refl
 
 returns-3 : tie.Need-returns-3
 unfolding table find hold
@@ -37,5 +40,6 @@ apply-tolla-spec =
     returns
     is-far-requires
     geocentric-to-geodetic-position-requires
+    gives-geodetic-requires
     returns-2
     returns-3)

@@ -28,9 +28,12 @@ not-body-requires c κs = search needs
 rotate-around-z-requires : tie.Need-rotate-around-z-requires
 rotate-around-z-requires c κs = search needs
 
+gives-frame-requires : tie.Need-gives-frame-requires
+gives-frame-requires c κs = search needs
+
 returns-3 : tie.Need-returns-3
 unfolding table find hold
-returns-3 c = rw (is-𝐟 (c .before .before .before .before .before .before .before .p .given .1), is-𝐚 (c .before .before .before .before .q .given .1), sym (c .before .before .not-body .ensures) ∙ c .before .if1 .taken, c .rotate-around-z .ensures) refl
+returns-3 c = rw (c .gives-frame .ensures, is-𝐟 (c .before .before .before .before .before .before .before .before .p .given .1), is-𝐚 (c .before .before .before .before .before .q .given .1), sym (c .before .before .before .not-body .ensures) ∙ c .before .before .if1 .taken, c .before .rotate-around-z .ensures) refl
 
 returns-4 : tie.Need-returns-4
 unfolding table find hold
@@ -46,5 +49,6 @@ apply-turn-spec =
     returns-2
     not-body-requires
     rotate-around-z-requires
+    gives-frame-requires
     returns-3
     returns-4)

@@ -24,15 +24,21 @@ is-far-requires c κs = search needs
 wander-azimuth-from-geocentric-requires : tie.Need-wander-azimuth-from-geocentric-requires
 wander-azimuth-from-geocentric-requires c κs = search needs
 
+gives-frame-requires : tie.Need-gives-frame-requires
+gives-frame-requires c κs = search needs
+
 enum-known-q-2 : tie.Need-enum-known-q-2
 enum-known-q-2 c = search needs
 
 wander-azimuth-from-geodetic-requires : tie.Need-wander-azimuth-from-geodetic-requires
 wander-azimuth-from-geodetic-requires c κs = search needs
 
+gives-frame-requires-2 : tie.Need-gives-frame-requires-2
+gives-frame-requires-2 c κs = search needs
+
 returns-2 : tie.Need-returns-2
 unfolding table find hold
-returns-2 c = rw (is-𝐚 (c .before .before .before .before .before .before .before .p .given .1), is-𝐠 (c .before .before .before .before .q .given .1), sym (c .before .before .is-far .ensures) ∙ c .before .if1 .taken, c .wander-azimuth-from-geocentric .ensures) refl
+returns-2 c = rw (c .gives-frame .ensures, is-𝐚 (c .before .before .before .before .before .before .before .before .p .given .1), is-𝐠 (c .before .before .before .before .before .q .given .1), sym (c .before .before .before .is-far .ensures) ∙ c .before .before .if1 .taken, c .before .wander-azimuth-from-geocentric .ensures) refl
 
 returns-3 : tie.Need-returns-3
 unfolding table find hold
@@ -40,7 +46,7 @@ returns-3 c = rw (is-𝐚 (c .before .before .before .before .before .before .p 
 
 returns-4 : tie.Need-returns-4
 unfolding table find hold
-returns-4 c = rw (is-𝐚 (c .before .before .before .before .before .p .given .1), 𝐝-not-𝐠 (c .before .before .q2 .given .1), is-𝐝 (c .before .before .q2 .given .1), c .wander-azimuth-from-geodetic .ensures) refl
+returns-4 c = rw (c .gives-frame2 .ensures, is-𝐚 (c .before .before .before .before .before .before .p .given .1), 𝐝-not-𝐠 (c .before .before .before .q2 .given .1), is-𝐝 (c .before .before .before .q2 .given .1), c .before .wander-azimuth-from-geodetic .ensures) refl
 
 returns-5 : tie.Need-returns-5
 unfolding table find hold
@@ -55,8 +61,10 @@ apply-wan-spec =
     enum-known-q
     is-far-requires
     wander-azimuth-from-geocentric-requires
+    gives-frame-requires
     enum-known-q-2
     wander-azimuth-from-geodetic-requires
+    gives-frame-requires-2
     returns-2
     returns-3
     returns-4

@@ -94,11 +94,14 @@ mul-x c = search needs
 array-copy-out-x : tie.Need-array-copy-out-x Inv-loop3 μ-loop3 Inv-loop2 μ-loop2 Inv-loop μ-loop
 array-copy-out-x c = omega (arith, c .before .loop3 .inv .below, c .before .before .before .before .before .before .before .before .before .before .before .before .before .before .loop .inv .2, c .before .before .before .before .before .before .before .before .before .before .before .before .before .before .loop .inv .3, c .before .before .before .before .before .before .before .before .before .before .before .before .before .loop-test .taken)
 
+held-requires : tie.Need-held-requires Inv-loop3 μ-loop3 Inv-loop2 μ-loop2 Inv-loop μ-loop
+held-requires c κs = search needs
+
 loop3-less : tie.Need-loop3-less Inv-loop3 μ-loop3 Inv-loop2 μ-loop2 Inv-loop μ-loop
 loop3-less c = omega arith
 
 loop3-again : tie.Need-loop3-again Inv-loop3 μ-loop3 Inv-loop2 μ-loop2 Inv-loop μ-loop
-loop3-again c = seek-hit _ _ _ _ _ (c .before .before .before .loop3-test .taken) (c .before .before .before .before .loop3 .inv) _ (omega (arith, c .before .before .before .before .loop3 .inv .below, c .before .before .before .before .before .before .before .before .before .before .before .before .before .before .before .before .before .loop .inv .2, c .before .before .before .before .before .before .before .before .before .before .before .before .before .before .before .before .before .loop .inv .3, c .before .before .before .before .before .before .before .before .before .before .before .before .before .before .before .before .loop-test .taken)) (c .if2 .taken)
+loop3-again c = seek-hit _ _ _ _ _ (c .before .before .before .before .loop3-test .taken) (c .before .before .before .before .before .loop3 .inv) _ (omega (arith, c .before .before .before .before .before .loop3 .inv .below, c .before .before .before .before .before .before .before .before .before .before .before .before .before .before .before .before .before .before .loop .inv .2, c .before .before .before .before .before .before .before .before .before .before .before .before .before .before .before .before .before .before .loop .inv .3, c .before .before .before .before .before .before .before .before .before .before .before .before .before .before .before .before .before .loop-test .taken)) (c .before .if2 .taken) _ (c .held .ensures)
 
 loop3-less-2 : tie.Need-loop3-less-2 Inv-loop3 μ-loop3 Inv-loop2 μ-loop2 Inv-loop μ-loop
 loop3-less-2 c = omega arith
@@ -233,6 +236,7 @@ run-lines-spec =
     sub-j
     mul-x
     array-copy-out-x
+    held-requires
     loop3-less
     loop3-again
     loop3-less-2

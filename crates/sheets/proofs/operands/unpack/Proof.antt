@@ -1,40 +1,24 @@
 -- `sheets::operands::unpack` meets its contract. Assumes nothing.
 use borrow.Author.Tests.{ne-eqb}
-use mathlib.Core.Path.{refl}
 use Rattle.sheets.specs.Operands.{unpacked}
 use borrow.Author.Needs.{needs}
 use Rattle.sheets.proofs.operands.unpack.Statement.{statement}
 use Rattle.sheets.proofs.operands.unpack.Tie as tie
 
-array-read-t7 : tie.Need-array-read-t7
-array-read-t7 c = search needs
+number-in-requires : tie.Need-number-in-requires
+number-in-requires c κs = search needs
 
-array-read-t11 : tie.Need-array-read-t11
-array-read-t11 c = search needs
+angle-in-requires : tie.Need-angle-in-requires
+angle-in-requires c κs = search needs
 
-array-read-t16 : tie.Need-array-read-t16
-array-read-t16 c = search needs
+length-in-requires : tie.Need-length-in-requires
+length-in-requires c κs = search needs
 
-array-read-t21 : tie.Need-array-read-t21
-array-read-t21 c = search needs
+geocentric-in-requires : tie.Need-geocentric-in-requires
+geocentric-in-requires c κs = search needs
 
-array-read-t25 : tie.Need-array-read-t25
-array-read-t25 c = search needs
-
-array-read-t29 : tie.Need-array-read-t29
-array-read-t29 c = search needs
-
-array-read-t35 : tie.Need-array-read-t35
-array-read-t35 c = search needs
-
-array-read-t38 : tie.Need-array-read-t38
-array-read-t38 c = search needs
-
-array-read-t41 : tie.Need-array-read-t41
-array-read-t41 c = search needs
-
-array-read-t46 : tie.Need-array-read-t46
-array-read-t46 c = search needs
+geodetic-in-requires : tie.Need-geodetic-in-requires
+geodetic-in-requires c κs = search needs
 
 vector-in-requires : tie.Need-vector-in-requires
 vector-in-requires c κs = search needs
@@ -62,23 +46,23 @@ frame-in-requires-4 c κs = search needs
 
 returns : tie.Need-returns
 unfolding unpacked
-returns c = rw (c .match .keys1) refl
+returns c = rw (c .before .match .keys1) (c .number-in .ensures)
 
 returns-2 : tie.Need-returns-2
 unfolding unpacked
-returns-2 c = rw (c .match .keys2) refl
+returns-2 c = rw (c .before .match .keys2) (c .angle-in .ensures)
 
 returns-3 : tie.Need-returns-3
 unfolding unpacked
-returns-3 c = rw (c .match .keys3) refl
+returns-3 c = rw (c .before .match .keys3) (c .length-in .ensures)
 
 returns-4 : tie.Need-returns-4
 unfolding unpacked
-returns-4 c = rw (c .match .keys4) refl
+returns-4 c = rw (c .before .match .keys4) (c .geocentric-in .ensures)
 
 returns-5 : tie.Need-returns-5
 unfolding unpacked
-returns-5 c = rw (c .match .keys5) refl
+returns-5 c = rw (c .before .match .keys5) (c .geodetic-in .ensures)
 
 returns-6 : tie.Need-returns-6
 unfolding unpacked
@@ -120,16 +104,11 @@ pub unpack-spec : {M : Type 1} → statement M
 unpack-spec =
     tie.close
     (tie.spec
-    array-read-t7
-    array-read-t11
-    array-read-t16
-    array-read-t21
-    array-read-t25
-    array-read-t29
-    array-read-t35
-    array-read-t38
-    array-read-t41
-    array-read-t46
+    number-in-requires
+    angle-in-requires
+    length-in-requires
+    geocentric-in-requires
+    geodetic-in-requires
     vector-in-requires
     vector-in-requires-2
     vector-in-requires-3

@@ -28,9 +28,12 @@ same-orientation-requires c κs = search needs
 destination-position-requires : tie.Need-destination-position-requires
 destination-position-requires c κs = search needs
 
+gives-geocentric-requires : tie.Need-gives-geocentric-requires
+gives-geocentric-requires c κs = search needs
+
 returns-3 : tie.Need-returns-3
 unfolding table find hold
-returns-3 c = rw (is-𝐟 (c .before .before .before .before .before .before .before .p .given .1), is-𝐯 (c .before .before .before .before .q .given .1), sym (c .before .before .same-orientation .ensures) ∙ c .before .if1 .taken, c .destination-position .ensures) refl
+returns-3 c = rw (c .gives-geocentric .ensures, is-𝐟 (c .before .before .before .before .before .before .before .before .p .given .1), is-𝐯 (c .before .before .before .before .before .q .given .1), sym (c .before .before .before .same-orientation .ensures) ∙ c .before .before .if1 .taken, c .before .destination-position .ensures) refl
 
 returns-4 : tie.Need-returns-4
 unfolding table find hold
@@ -46,5 +49,6 @@ apply-at-spec =
     returns-2
     same-orientation-requires
     destination-position-requires
+    gives-geocentric-requires
     returns-3
     returns-4)

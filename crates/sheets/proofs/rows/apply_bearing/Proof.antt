@@ -18,9 +18,12 @@ returns c = rw (not-𝐯 _ (c .match .keys2)) refl
 bearing-requires : tie.Need-bearing-requires
 bearing-requires c κs = search needs
 
+gives-angle-requires : tie.Need-gives-angle-requires
+gives-angle-requires c κs = search needs
+
 returns-2 : tie.Need-returns-2
 unfolding table find hold
-returns-2 c = rw (is-𝐯 (c .before .before .p .given .1), c .bearing .ensures) refl
+returns-2 c = rw (c .gives-angle .ensures, is-𝐯 (c .before .before .before .p .given .1), c .before .bearing .ensures) refl
 
 pub apply-bearing-spec : {M : Type 1} → statement M
-apply-bearing-spec = tie.close (tie.spec enum-known-p returns bearing-requires returns-2)
+apply-bearing-spec = tie.close (tie.spec enum-known-p returns bearing-requires gives-angle-requires returns-2)

@@ -18,9 +18,12 @@ returns c = rw (not-𝐧 _ (c .match .keys2)) refl
 from-degrees-requires : tie.Need-from-degrees-requires
 from-degrees-requires c κs = search needs
 
+gives-angle-requires : tie.Need-gives-angle-requires
+gives-angle-requires c κs = search needs
+
 returns-2 : tie.Need-returns-2
 unfolding table find hold
-returns-2 c = rw (is-𝐧 (c .before .before .p .given .1), c .from-degrees .ensures) refl
+returns-2 c = rw (c .gives-angle .ensures, is-𝐧 (c .before .before .before .p .given .1), c .before .from-degrees .ensures) refl
 
 pub apply-deg-spec : {M : Type 1} → statement M
-apply-deg-spec = tie.close (tie.spec enum-known-p returns from-degrees-requires returns-2)
+apply-deg-spec = tie.close (tie.spec enum-known-p returns from-degrees-requires gives-angle-requires returns-2)

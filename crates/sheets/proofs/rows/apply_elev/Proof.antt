@@ -18,9 +18,12 @@ returns c = rw (not-𝐯 _ (c .match .keys2)) refl
 elevation-requires : tie.Need-elevation-requires
 elevation-requires c κs = search needs
 
+gives-angle-requires : tie.Need-gives-angle-requires
+gives-angle-requires c κs = search needs
+
 returns-2 : tie.Need-returns-2
 unfolding table find hold
-returns-2 c = rw (is-𝐯 (c .before .before .p .given .1), c .elevation .ensures) refl
+returns-2 c = rw (c .gives-angle .ensures, is-𝐯 (c .before .before .before .p .given .1), c .before .elevation .ensures) refl
 
 pub apply-elev-spec : {M : Type 1} → statement M
-apply-elev-spec = tie.close (tie.spec enum-known-p returns elevation-requires returns-2)
+apply-elev-spec = tie.close (tie.spec enum-known-p returns elevation-requires gives-angle-requires returns-2)

@@ -15,16 +15,19 @@ enum-known-t c = search needs
 new-requires : tie.Need-new-requires
 new-requires c κs = search needs
 
+gives-geocentric-requires : tie.Need-gives-geocentric-requires
+gives-geocentric-requires c κs = search needs
+
 enum-told : tie.Need-enum-told
 enum-told c = search needs
 
 returns : tie.Need-returns
 unfolding table find
-returns c = rw (c .before .before .before .before .lengths-of .ensures, c .before .before .t .given .1, c .new .ensures) refl
+returns c = rw (c .gives-geocentric .ensures, c .before .before .before .before .before .lengths-of .ensures, c .before .before .before .t .given .1, c .before .new .ensures) refl
 
 returns-2 : tie.Need-returns-2
 unfolding table find
 returns-2 c = rw (c .before .before .lengths-of .ensures, c .enum-told .given .1) refl
 
 pub apply-geo-spec : {M : Type 1} → statement M
-apply-geo-spec = tie.close (tie.spec lengths-of-requires enum-known-t new-requires enum-told returns returns-2)
+apply-geo-spec = tie.close (tie.spec lengths-of-requires enum-known-t new-requires gives-geocentric-requires enum-told returns returns-2)

@@ -18,12 +18,15 @@ from-lat-long-requires c κs = search needs
 new-requires : tie.Need-new-requires
 new-requires c κs = search needs
 
+gives-geodetic-requires : tie.Need-gives-geodetic-requires
+gives-geodetic-requires c κs = search needs
+
 enum-told : tie.Need-enum-told
 enum-told c = search needs
 
 returns : tie.Need-returns
 unfolding table find
-returns c = rw (c .before .before .before .before .before .aer-of .ensures, c .before .before .before .t .given .1, c .new .ensures, c .before .from-lat-long .ensures) refl
+returns c = rw (c .gives-geodetic .ensures, c .before .before .before .before .before .before .aer-of .ensures, c .before .before .before .before .t .given .1, c .before .new .ensures, c .before .before .from-lat-long .ensures) refl
 
 returns-2 : tie.Need-returns-2
 unfolding table find
@@ -32,4 +35,4 @@ returns-2 c = rw (c .before .before .aer-of .ensures, c .enum-told .given .1) re
 pub apply-lla-spec : {M : Type 1} → statement M
 apply-lla-spec =
     tie.close
-    (tie.spec aer-of-requires enum-known-t from-lat-long-requires new-requires enum-told returns returns-2)
+    (tie.spec aer-of-requires enum-known-t from-lat-long-requires new-requires gives-geodetic-requires enum-told returns returns-2)

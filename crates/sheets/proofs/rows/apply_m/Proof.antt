@@ -18,9 +18,12 @@ returns c = rw (not-𝐧 _ (c .match .keys2)) refl
 from-metres-requires : tie.Need-from-metres-requires
 from-metres-requires c κs = search needs
 
+gives-length-requires : tie.Need-gives-length-requires
+gives-length-requires c κs = search needs
+
 returns-2 : tie.Need-returns-2
 unfolding table find hold
-returns-2 c = rw (is-𝐧 (c .before .before .p .given .1), c .from-metres .ensures) refl
+returns-2 c = rw (c .gives-length .ensures, is-𝐧 (c .before .before .before .p .given .1), c .before .from-metres .ensures) refl
 
 pub apply-m-spec : {M : Type 1} → statement M
-apply-m-spec = tie.close (tie.spec enum-known-p returns from-metres-requires returns-2)
+apply-m-spec = tie.close (tie.spec enum-known-p returns from-metres-requires gives-length-requires returns-2)

@@ -18,9 +18,12 @@ returns c = rw (not-𝐯 _ (c .match .keys2)) refl
 neg-requires : tie.Need-neg-requires
 neg-requires c κs = search needs
 
+gives-vector-requires : tie.Need-gives-vector-requires
+gives-vector-requires c κs = search needs
+
 returns-2 : tie.Need-returns-2
 unfolding table find hold
-returns-2 c = rw (is-𝐯 (c .before .before .p .given .1), c .neg .ensures) refl
+returns-2 c = rw (c .gives-vector .ensures, is-𝐯 (c .before .before .before .p .given .1), c .before .neg .ensures) refl
 
 pub apply-neg-spec : {M : Type 1} → statement M
-apply-neg-spec = tie.close (tie.spec enum-known-p returns neg-requires returns-2)
+apply-neg-spec = tie.close (tie.spec enum-known-p returns neg-requires gives-vector-requires returns-2)

@@ -18,9 +18,12 @@ returns c = rw (not-𝐟 _ (c .match .keys2)) refl
 origin-requires : tie.Need-origin-requires
 origin-requires c κs = search needs
 
+gives-geocentric-requires : tie.Need-gives-geocentric-requires
+gives-geocentric-requires c κs = search needs
+
 returns-2 : tie.Need-returns-2
 unfolding table find hold
-returns-2 c = rw (is-𝐟 (c .before .before .p .given .1), c .origin .ensures) refl
+returns-2 c = rw (c .gives-geocentric .ensures, is-𝐟 (c .before .before .before .p .given .1), c .before .origin .ensures) refl
 
 pub apply-origin-spec : {M : Type 1} → statement M
-apply-origin-spec = tie.close (tie.spec enum-known-p returns origin-requires returns-2)
+apply-origin-spec = tie.close (tie.spec enum-known-p returns origin-requires gives-geocentric-requires returns-2)

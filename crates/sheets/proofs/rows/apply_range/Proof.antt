@@ -18,9 +18,12 @@ returns c = rw (not-𝐯 _ (c .match .keys2)) refl
 slant-range-requires : tie.Need-slant-range-requires
 slant-range-requires c κs = search needs
 
+gives-length-requires : tie.Need-gives-length-requires
+gives-length-requires c κs = search needs
+
 returns-2 : tie.Need-returns-2
 unfolding table find hold
-returns-2 c = rw (is-𝐯 (c .before .before .p .given .1), c .slant-range .ensures) refl
+returns-2 c = rw (c .gives-length .ensures, is-𝐯 (c .before .before .before .p .given .1), c .before .slant-range .ensures) refl
 
 pub apply-range-spec : {M : Type 1} → statement M
-apply-range-spec = tie.close (tie.spec enum-known-p returns slant-range-requires returns-2)
+apply-range-spec = tie.close (tie.spec enum-known-p returns slant-range-requires gives-length-requires returns-2)

@@ -18,9 +18,12 @@ returns c = rw (not-𝐟 _ (c .match .keys2)) refl
 r2zyx-requires : tie.Need-r2zyx-requires
 r2zyx-requires c κs = search needs
 
+gives-angle-requires : tie.Need-gives-angle-requires
+gives-angle-requires c κs = search needs
+
 returns-2 : tie.Need-returns-2
 unfolding table find hold
-returns-2 c = rw (is-𝐟 (c .before .before .before .before .p .given .1), c .before .r2zyx .ensures) refl
+returns-2 c = rw (c .gives-angle .ensures, is-𝐟 (c .before .before .before .before .before .p .given .1), c .before .before .r2zyx .ensures) refl
 
 pub apply-rz-spec : {M : Type 1} → statement M
-apply-rz-spec = tie.close (tie.spec enum-known-p returns r2zyx-requires returns-2)
+apply-rz-spec = tie.close (tie.spec enum-known-p returns r2zyx-requires gives-angle-requires returns-2)

@@ -25,10 +25,13 @@ returns-2 c = rw (is-𝐯 (c .before .before .p .given .1), not-𝐧 _ (c .match
 mul-requires : tie.Need-mul-requires
 mul-requires c κs = search needs
 
+gives-vector-requires : tie.Need-gives-vector-requires
+gives-vector-requires c κs = search needs
+
 returns-3 : tie.Need-returns-3
 unfolding table find hold
-returns-3 c = rw (is-𝐯 (c .before .before .before .before .before .p .given .1), is-𝐧 (c .before .before .q .given .1), c .mul .ensures) refl
+returns-3 c = rw (c .gives-vector .ensures, is-𝐯 (c .before .before .before .before .before .before .p .given .1), is-𝐧 (c .before .before .before .q .given .1), c .before .mul .ensures) refl
 
 pub apply-scale-spec : {M : Type 1} → statement M
 apply-scale-spec =
-    tie.close (tie.spec enum-known-p returns enum-known-q returns-2 mul-requires returns-3)
+    tie.close (tie.spec enum-known-p returns enum-known-q returns-2 mul-requires gives-vector-requires returns-3)

@@ -28,9 +28,12 @@ same-orientation-requires c κs = search needs
 sub-requires : tie.Need-sub-requires
 sub-requires c κs = search needs
 
+gives-vector-requires : tie.Need-gives-vector-requires
+gives-vector-requires c κs = search needs
+
 returns-3 : tie.Need-returns-3
 unfolding table find hold
-returns-3 c = rw (is-𝐯 (c .before .before .before .before .before .before .before .p .given .1), is-𝐯 (c .before .before .before .before .q .given .1), sym (c .before .before .same-orientation .ensures) ∙ c .before .if1 .taken, c .sub .ensures) refl
+returns-3 c = rw (c .gives-vector .ensures, is-𝐯 (c .before .before .before .before .before .before .before .before .p .given .1), is-𝐯 (c .before .before .before .before .before .q .given .1), sym (c .before .before .before .same-orientation .ensures) ∙ c .before .before .if1 .taken, c .before .sub .ensures) refl
 
 returns-4 : tie.Need-returns-4
 unfolding table find hold
@@ -46,5 +49,6 @@ apply-sub-spec =
     returns-2
     same-orientation-requires
     sub-requires
+    gives-vector-requires
     returns-3
     returns-4)

@@ -21,9 +21,12 @@ enu-or-ned-requires c κs = search needs
 swap-requires : tie.Need-swap-requires
 swap-requires c κs = search needs
 
+gives-vector-requires : tie.Need-gives-vector-requires
+gives-vector-requires c κs = search needs
+
 returns-2 : tie.Need-returns-2
 unfolding table find hold
-returns-2 c = rw (is-𝐯 (c .before .before .before .before .p .given .1), sym (c .before .before .enu-or-ned .ensures) ∙ c .before .if1 .taken, c .swap .ensures) refl
+returns-2 c = rw (c .gives-vector .ensures, is-𝐯 (c .before .before .before .before .before .p .given .1), sym (c .before .before .before .enu-or-ned .ensures) ∙ c .before .before .if1 .taken, c .before .swap .ensures) refl
 
 returns-3 : tie.Need-returns-3
 unfolding table find hold
@@ -31,4 +34,4 @@ returns-3 c = rw (is-𝐯 (c .before .before .before .p .given .1), sym (c .befo
 
 pub apply-swap-spec : {M : Type 1} → statement M
 apply-swap-spec =
-    tie.close (tie.spec enum-known-p returns enu-or-ned-requires swap-requires returns-2 returns-3)
+    tie.close (tie.spec enum-known-p returns enu-or-ned-requires swap-requires gives-vector-requires returns-2 returns-3)

@@ -25,11 +25,14 @@ returns-2 c = rw (is-𝐟 (c .before .before .p .given .1), not-𝐠 _ (c .match
 local-vector-to-requires : tie.Need-local-vector-to-requires
 local-vector-to-requires c κs = search needs
 
+gives-vector-requires : tie.Need-gives-vector-requires
+gives-vector-requires c κs = search needs
+
 returns-3 : tie.Need-returns-3
 unfolding table find hold
-returns-3 c = rw (is-𝐟 (c .before .before .before .before .before .p .given .1), is-𝐠 (c .before .before .q .given .1), c .local-vector-to .ensures) refl
+returns-3 c = rw (c .gives-vector .ensures, is-𝐟 (c .before .before .before .before .before .before .p .given .1), is-𝐠 (c .before .before .before .q .given .1), c .before .local-vector-to .ensures) refl
 
 pub apply-to-spec : {M : Type 1} → statement M
 apply-to-spec =
     tie.close
-    (tie.spec enum-known-p returns enum-known-q returns-2 local-vector-to-requires returns-3)
+    (tie.spec enum-known-p returns enum-known-q returns-2 local-vector-to-requires gives-vector-requires returns-3)
