@@ -1,6 +1,7 @@
 // Times the check and the run of whole sheets, the library's through its C functions beside the Rust interpreter's, on the same sheets in one run.
 //   bench_sheets             the tables
 //   bench_sheets profile K   200 runs of the sheet of 96 lines of sort K, from 0, by the library alone, for a profiler
+//   bench_sheets once check|run K LINES   one call of the library on a sheet of so many lines of sort K, for a counter of instructions
 #[path = "../examples/rust/boresheet.rs"]
 mod library;
 #[allow(dead_code)]
@@ -12,8 +13,10 @@ use timing::best;
 
 // Lines of each length that is timed, line 1 among them.
 const LENGTHS: [usize; 4] = [12, 24, 48, 96];
+// Rounds of so many calls; and so many passes over all sheets, since a machine that is shared may be slow for seconds.
 const CALLS: usize = 20;
-const ROUNDS: usize = 600;
+const ROUNDS: usize = 75;
+const PASSES: usize = 8;
 
 const HEAD: &str = "(ellipsoid wgs84)\n";
 
@@ -23,14 +26,14 @@ fn site(lines: usize) -> String {
     for i in 0..lines - 1 {
         let (bore, step) = (i / 8, i % 8);
         text += &match step {
-            0 => format!("(let c{bore} (lla (deg 46.51{bore:02}45) (deg 8.12{bore:02}56) (m 812.{bore:02})))\n"),
-            1 => format!("(let f{bore} (enu c{bore}))\n"),
-            2 => format!("(let d{bore} (aenu (deg 132.{bore}) (deg -78.25) (m 42.{bore})))\n"),
-            3 => format!("(let t{bore} (at f{bore} d{bore}))\n"),
-            4 => format!("(let p{bore} (tolla t{bore}))\n"),
-            5 => format!("(let b{bore} (bearing (to f0 t{bore})))\n"),
-            6 => format!("(show b{bore})\n"),
-            _ => format!("(show p{bore})\n"),
+            0 => format!("(let c{bore:02} (lla (deg 46.51{bore:02}45) (deg 8.12{bore:02}56) (m 812.{bore:02})))\n"),
+            1 => format!("(let f{bore:02} (enu c{bore:02}))\n"),
+            2 => format!("(let d{bore:02} (aenu (deg 132.{bore:02}) (deg -78.25) (m 42.{bore:02})))\n"),
+            3 => format!("(let t{bore:02} (at f{bore:02} d{bore:02}))\n"),
+            4 => format!("(let p{bore:02} (tolla t{bore:02}))\n"),
+            5 => format!("(let b{bore:02} (bearing (to f00 t{bore:02})))\n"),
+            6 => format!("(show b{bore:02})\n"),
+            _ => format!("(show p{bore:02})\n"),
         };
     }
     text
@@ -38,12 +41,12 @@ fn site(lines: usize) -> String {
 
 // One bracket a line.
 fn brackets(lines: usize) -> String {
-    HEAD.to_string() + &(1..lines).map(|i| format!("(let w{i} (m {i}.25))\n")).collect::<String>()
+    HEAD.to_string() + &(1..lines).map(|i| format!("(let w{i:02} (m {i:02}.25))\n")).collect::<String>()
 }
 
 // Shows of a reading.
 fn shows(lines: usize) -> String {
-    HEAD.to_string() + &(1..lines).map(|i| format!("(show r{})\n", i % 16)).collect::<String>()
+    HEAD.to_string() + &(1..lines).map(|i| format!("(show r{})\n", i % 10)).collect::<String>()
 }
 
 // Shows of one frame, the longest text.
@@ -83,19 +86,24 @@ fn time_run(name: &str, s: &[u8]) -> (f64, f64) {
     best(name, CALLS, ROUNDS, |_| call(rust), |_| call(rattle))
 }
 
+// Nanoseconds of a check and of a run, each by the Rust and by the library.
+type Times = [f64; 4];
+
+fn times(name: &str, s: &[u8]) -> Times {
+    let ((a, b), (c, d)) = (time_check(name, s), time_run(name, s));
+    [a, b, c, d]
+}
+
 // A table of one sort of sheet, microseconds a call.
-fn table(name: &str, make: fn(usize) -> String) {
+fn table(name: &str, make: fn(usize) -> String, best: &[Times; 4]) {
     println!("{name}");
     println!("  lines  bytes   check: Rust   Rattle  ratio  Rattle a line     run: Rust   Rattle  ratio  Rattle a line");
-    for lines in LENGTHS {
-        let text = make(lines);
-        let s = text.as_bytes();
-        assert_eq!(sheet::check(s, &mut [0; 96]), (0, 0), "{name} of {lines} lines must pass");
-        let us = |(a, b): (f64, f64)| (a / 1000.0, b / 1000.0, b / a, b / 1000.0 / lines as f64);
-        let (a, b, ratio, each) = us(time_check(name, s));
-        print!("  {lines:>5} {:>6} {a:>13.2} {b:>8.2} {ratio:>6.2} {each:>14.3}", s.len());
-        let (a, b, ratio, each) = us(time_run(name, s));
-        println!(" {a:>13.2} {b:>8.2} {ratio:>6.2} {each:>14.3}");
+    for (lines, t) in LENGTHS.into_iter().zip(best) {
+        print!("  {lines:>5} {:>6}", make(lines).len());
+        for [a, b] in [[t[0], t[1]], [t[2], t[3]]] {
+            print!(" {:>13.2} {:>8.2} {:>6.2} {:>14.3}", a / 1000.0, b / 1000.0, b / a, b / 1000.0 / lines as f64);
+        }
+        println!();
     }
 }
 
@@ -112,14 +120,39 @@ fn profile((name, make): (&str, fn(usize) -> String)) {
     }
 }
 
+fn once(what: &str, (name, make): (&str, fn(usize) -> String), lines: usize) {
+    let (text, mut kinds, mut out) = (make(lines), [0; 96], vec![0; 24576]);
+    let number = match what {
+        "check" => library::check(black_box(text.as_bytes()), &mut kinds).0,
+        "run" => library::run(black_box(text.as_bytes()), &READINGS, &mut out).0,
+        _ => panic!("check or run"),
+    };
+    assert_eq!(number, 0, "{name} must pass");
+}
+
 fn main() {
     let args: Vec<String> = std::env::args().skip(1).collect();
-    if let [word, k] = &args[..] {
-        assert_eq!(word, "profile");
-        return profile(SORTS[k.parse::<usize>().expect("a number")]);
+    let number = |k: &String| k.parse::<usize>().expect("a number");
+    match &args[..] {
+        [] => (),
+        [word, k] if word == "profile" => return profile(SORTS[number(k)]),
+        [word, what, k, lines] if word == "once" => return once(what, SORTS[number(k)], number(lines)),
+        _ => panic!("bench_sheets [profile K | once check|run K LINES]"),
     }
-    println!("microseconds a call, the best of {ROUNDS} rounds of {CALLS} calls");
-    for (name, make) in SORTS {
-        table(name, make);
+    let mut best = [[[f64::INFINITY; 4]; LENGTHS.len()]; SORTS.len()];
+    for _ in 0..PASSES {
+        for ((name, make), row) in SORTS.into_iter().zip(&mut best) {
+            for (lines, least) in LENGTHS.into_iter().zip(row) {
+                let text = make(lines);
+                assert_eq!(sheet::check(text.as_bytes(), &mut [0; 96]), (0, 0), "{name} of {lines} lines must pass");
+                for (x, t) in least.iter_mut().zip(times(name, text.as_bytes())) {
+                    *x = x.min(t);
+                }
+            }
+        }
+    }
+    println!("microseconds a call, the best of {PASSES} passes of {ROUNDS} rounds of {CALLS} calls");
+    for ((name, make), row) in SORTS.into_iter().zip(&best) {
+        table(name, make, row);
     }
 }
