@@ -9,7 +9,7 @@ use lib.ListN.{length, getD}
 abbrev pub newestOf : List ℕ → ℕ → ℕ
 newestOf newest c = getD newest (c % 512) 0
 
--- of n words, whose codes `code` gives from 0 on: for each remainder one more than the newest place of such a word, or a later place; 0 where no word has it
+-- of n words, whose codes `code` gives from 0 on: for each remainder a place, at most n, from which on no word has it
 pub record Newest (code : ℕ → ℕ) (n : ℕ) (newest : List ℕ) : Type 0 where
   pub size : length newest ≡ 512
   pub most : (c : ℕ) → newestOf newest c ≤ n
