@@ -13,7 +13,7 @@ use Rattle.sheets.specs.declared.args.Applied.{Applied}
 use Rattle.sheets.specs.declared.bytes.WordRead.{WordRead}
 use Rattle.sheets.specs.declared.expr.Read.{Read}
 use Rattle.sheets.specs.Text.{Word}
-use Rattle.sheets.specs.Trees.{Expr, Exprs, form-expr, nil, _▸_}
+use Rattle.sheets.specs.Trees.{Exprs, nil}
 use Rattle.sheets.specs.Grammar.{IsWord}
 use Rattle.sheets.specs.Codes.{codeOf}
 use Rattle.sheets.specs.Limits.{inLimit}
@@ -21,16 +21,16 @@ use Rattle.sheets.specs.Names.{Known}
 use Rattle.sheets.specs.Table.{table}
 use Rattle.sheets.specs.Lookup.{find}
 use Rattle.sheets.specs.Refusals.{stop, refusalNumber}
-use Rattle.sheets.specs.Reader.{Got, got, readWord, readArgs, readExpr}
+use Rattle.sheets.specs.Reader.{got, readWord, readArgs, readExpr}
 use Rattle.sheets.specs.Views.{place, coded}
-use Rattle.sheets.specs.Applied.{applied, Applies}
+use Rattle.sheets.specs.Applied.{Applies}
 use Rattle.sheets.specs.Machine.{Out, goes, stops, sticks, after, then as thenᵒ, test, met, made, applyRow, eval, evals}
 use Rattle.sheets.proofs.ReaderLaws.{close-read}
+use Rattle.sheets.proofs.ExprSteps.{not-close, args-none, args-other}
 use Rattle.sheets.proofs.Inverse.{not-read, arg-read, form-read}
 use Rattle.sheets.proofs.AppliedLaws.{outOf, apply-row}
-use Rattle.sheets.specs.Evaluating.{evaluated, Evals, EvalsWith}
+use Rattle.sheets.specs.Evaluating.{evaluated, Evals, EvalsWith, RowHas, Bracket, BracketWith}
 use Rattle.sheets.specs.declared.eval.Evaluated.{Evaluated}
-use Rattle.sheets.specs.Evaluating.{RowHas, Bracket, BracketWith}
 
 after-same : (fs : List LocalFrame) (o : Out Value) (n : ℕ) → evaluated (after fs o) n ≡ evaluated o n
 unfolding evaluated
@@ -75,7 +75,7 @@ evals-form s at b eb depth h d r er k m hr e ks fs q hq = record {
 
 -- ---- the arguments
 
-pub bracket-bad : (s : List ℕ) (at depth left : ℕ) (e : Ellipsoid) (k : ℕ) (ps : Known Value) (vs : List Value) (r : Evaluated) → Read.Bad ≡ place (readArgs (readExpr depth s) left s at) → Bracket s at depth left e k ps vs r
+bracket-bad : (s : List ℕ) (at depth left : ℕ) (e : Ellipsoid) (k : ℕ) (ps : Known Value) (vs : List Value) (r : Evaluated) → Read.Bad ≡ place (readArgs (readExpr depth s) left s at) → Bracket s at depth left e k ps vs r
 bracket-bad s at depth left e k ps vs r h = record { is = λ w iw ek es n g. not-read (readArgs (readExpr depth s) left s at) es n h g }
 
 module _ (s : List ℕ) (at b : ℕ) (eb : b ≡ getD s at 0) (depth left : ℕ) (e : Ellipsoid) (k : ℕ) (ps : Known Value) (vs : List Value) where
@@ -89,14 +89,20 @@ module _ (s : List ℕ) (at b : ℕ) (eb : b ≡ getD s at 0) (depth left : ℕ)
         rw (ee, en) (hr .is w iw ek ∙ ap (λ us. evaluated (applyRow e (find table w us)) (at + 1)) (sym (append-nil vs)) ∙ sym (after-same [] (applyRow e (find table w (vs ++ []))) (at + 1)));
   }
 
-  module _ (c : b ≡ 41 → ⊥) (l : left ≡ 0 → ⊥) (h : b ≡ 32) (r : Evaluated) (hr : Evals s (at + 1) depth e ps r) where
+  pub bracket-sixth : b ≡ 32 → left ≡ 0 → (r : Evaluated) → Bracket s at depth left e k ps vs r
+  bracket-sixth h l r = bracket-bad s at depth left e k ps vs r (args-none (readExpr depth s) s at b eb left (not-close b h) l)
+
+  pub bracket-other : (b ≡ 32 → ⊥) → (b ≡ 41 → ⊥) → (r : Evaluated) → Bracket s at depth left e k ps vs r
+  bracket-other h c r = bracket-bad s at depth left e k ps vs r (args-other (readExpr depth s) s at b eb left c h)
+
+  module _ (h : b ≡ 32) (l : left ≡ 0 → ⊥) (r : Evaluated) (hr : Evals s (at + 1) depth e ps r) where
     -- the first argument and the rest
     args-are : (q : Evaluated) → ((w : Word) → IsWord w → codeOf w ≡ k → (m : ℕ) (xs : Exprs) (n : ℕ) → readArgs (readExpr depth s) (left - 1) s m ≡ got xs n → (o : Out Value) → r ≡ evaluated o m → q ≡ evaluated (thenᵒ (thenᵒ o (λ y. thenᵒ (evals xs e ps) (λ ys. goes [] (y ∷ ys)))) (λ us. applyRow e (find table w (vs ++ us)))) n)
         → Bracket s at depth left e k ps vs q
     unfolding evals
     args-are q f = record {
       is = λ w iw ek es n p.
-          let (x, m, xs, ex, ef, ee) = arg-read (readExpr depth s) s at b eb left c l h es n p in
+          let (x, m, xs, ex, ef, ee) = arg-read (readExpr depth s) s at b eb left l h es n p in
           rw ee (f w iw ek m xs n ef (eval x e ps) (hr .is x m ex));
     }
 

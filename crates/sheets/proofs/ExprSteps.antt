@@ -1,6 +1,7 @@
 -- Expressions, a step at a time, as the code reads them: a law for each way out of `expr` and `args`. Assumes nothing.
 use Prim.Native.Nat.{ℕ, zero, suc, _+_, _-_}
 use native.Mathlib.Numerals.{sub-one}
+use native.Mathlib.Omega.{arith}
 use mathlib.Core.Path.{_≡_, refl, sym, ap, _∙_}
 use mathlib.Core.List.{List}
 use lib.ListN.{getD}
@@ -23,6 +24,11 @@ place-same none f = refl
 place-same (got x n) f = refl
 
 -- ---- the arguments
+
+-- a space is no closing bracket
+pub not-close : (b : ℕ) → b ≡ 32 → b ≡ 41 → ⊥
+not-close b h e = omega arith
+
 module _ (x : ℕ → Got Expr) (s : List ℕ) (at b : ℕ) (eb : b ≡ getD s at 0) (left : ℕ) where
   pub args-close : b ≡ 41 → Read.At (at + 1) ≡ place (readArgs x left s at)
   unfolding place
@@ -40,25 +46,25 @@ module _ (x : ℕ → Got Expr) (s : List ℕ) (at b : ℕ) (eb : b ≡ getD s a
       go zero = rw (ne-eqb (getD s at 0) 41 (rw eb at e)) refl
       go (suc n) = rw (ne-eqb (getD s at 0) 41 (rw eb at e), ne-eqb (getD s at 0) 32 (rw eb at l)) refl
 
-  pub args-step : (b ≡ 41 → ⊥) → (left ≡ 0 → ⊥) → b ≡ 32 → readArgs x left s at ≡ x (at + 1) then (λ y n. readArgs x (left - 1) s n then (λ ys m. got (y ▸ ys) m))
+  pub args-step : (left ≡ 0 → ⊥) → b ≡ 32 → readArgs x left s at ≡ x (at + 1) then (λ y n. readArgs x (left - 1) s n then (λ ys m. got (y ▸ ys) m))
   unfolding readArgs argsStep
-  args-step e l h = go left l
+  args-step l h = go left l
     where
       go : (left : ℕ) → (left ≡ 0 → ⊥) → readArgs x left s at ≡ x (at + 1) then (λ y n. readArgs x (left - 1) s n then (λ ys m. got (y ▸ ys) m))
       go zero l = absurd (l refl)
-      go (suc n) l = rw (ne-eqb (getD s at 0) 41 (rw eb at e), eq-eqb (getD s at 0) 32 (cc), sub-one) refl
+      go (suc n) l = rw (ne-eqb (getD s at 0) 41 (not-close (getD s at 0) (cc)), eq-eqb (getD s at 0) 32 (cc), sub-one) refl
 
   -- r is what the reader answered of the argument
-  pub args-bad : (b ≡ 41 → ⊥) → (left ≡ 0 → ⊥) → b ≡ 32 → (r : Read) → r ≡ place (x (at + 1)) → r ≡ Read.Bad → Read.Bad ≡ place (readArgs x left s at)
+  pub args-bad : (left ≡ 0 → ⊥) → b ≡ 32 → (r : Read) → r ≡ place (x (at + 1)) → r ≡ Read.Bad → Read.Bad ≡ place (readArgs x left s at)
   unfolding place _then_
-  args-bad e l h r er k = rw (args-step e l h, placed-none (x (at + 1)) r er k) refl
+  args-bad l h r er k = rw (args-step l h, placed-none (x (at + 1)) r er k) refl
 
-  pub args-more : (b ≡ 41 → ⊥) → (left ≡ 0 → ⊥) → b ≡ 32 → (r : Read) → r ≡ place (x (at + 1)) → (n : ℕ) → r ≡ Read.At n
+  pub args-more : (left ≡ 0 → ⊥) → b ≡ 32 → (r : Read) → r ≡ place (x (at + 1)) → (n : ℕ) → r ≡ Read.At n
       → (q : Read) → q ≡ place (readArgs x (left - 1) s n) → q ≡ place (readArgs x left s at)
   unfolding _then_
-  args-more e l h r er n en q eq =
+  args-more l h r er n en q eq =
       let (y, ey) = placed-got (x (at + 1)) r er n en in
-      rw (args-step e l h, ey) (eq ∙ sym (place-same (readArgs x (left - 1) s n) (λ ys. y ▸ ys)))
+      rw (args-step l h, ey) (eq ∙ sym (place-same (readArgs x (left - 1) s n) (λ ys. y ▸ ys)))
 
 -- ---- an expression
 module _ (s : List ℕ) (at b : ℕ) (eb : b ≡ getD s at 0) (depth : ℕ) where

@@ -28,10 +28,10 @@ then-read none k y n e = let z : _≡_ {A = ℕ} 0 1 = cc in absurd (omega arith
 then-read (got x m) k y n e = (x, m, refl, e)
 
 -- an argument and the rest
-pub arg-read : (x : ℕ → Got Expr) (s : List ℕ) (at b : ℕ) → b ≡ getD s at 0 → (left : ℕ) → (b ≡ 41 → ⊥) → (left ≡ 0 → ⊥) → b ≡ 32 → (es : Exprs) (n : ℕ) → readArgs x left s at ≡ got es n
+pub arg-read : (x : ℕ → Got Expr) (s : List ℕ) (at b : ℕ) → b ≡ getD s at 0 → (left : ℕ) → (left ≡ 0 → ⊥) → b ≡ 32 → (es : Exprs) (n : ℕ) → readArgs x left s at ≡ got es n
     → (e : Expr) × (m : ℕ) × (fs : Exprs) × (x (at + 1) ≡ got e m) × (readArgs x (left - 1) s m ≡ got fs n) × (es ≡ e ▸ fs)
-arg-read x s at b eb left c l h es n r =
-    let (e, m, ex, r') = then-read (x (at + 1)) (λ y n. readArgs x (left - 1) s n then (λ ys m. got (y ▸ ys) m)) es n (sym (args-step x s at b eb left c l h) ∙ r) in
+arg-read x s at b eb left l h es n r =
+    let (e, m, ex, r') = then-read (x (at + 1)) (λ y n. readArgs x (left - 1) s n then (λ ys m. got (y ▸ ys) m)) es n (sym (args-step x s at b eb left l h) ∙ r) in
     let (fs, k, ef, r'') = then-read (readArgs x (left - 1) s m) (λ ys m. got (e ▸ ys) m) es n r' in
     let i : k ≡ n = cc in
     (e, m, fs, ex, ef ∙ ap (got fs) i, cc)

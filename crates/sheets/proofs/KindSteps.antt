@@ -6,7 +6,7 @@ use mathlib.Core.List.{List, _∷_}
 use mathlib.Core.Option.{Option, none, some}
 use lib.ListN.{getD}
 use Rattle.sheets.specs.Text.{Word}
-use Rattle.sheets.specs.Trees.{Expr, Exprs, word-expr, num-expr, form-expr, nil, _▸_}
+use Rattle.sheets.specs.Trees.{Expr, Exprs, word-expr, num-expr, nil, _▸_}
 use Rattle.sheets.specs.Grammar.{IsWord, IsExpr}
 use Rattle.sheets.specs.Codes.{codeOf}
 use Rattle.sheets.specs.Reader.{got, readWord, readNum, readArgs, readExpr}
@@ -24,7 +24,7 @@ use Rattle.sheets.specs.declared.num.NumRead.{NumRead}
 use Rattle.sheets.specs.declared.expr.Read.{Read}
 use Rattle.sheets.proofs.ReaderLaws.{close-read}
 use Rattle.sheets.proofs.TokenSteps.{grow, cap}
-use Rattle.sheets.proofs.ExprSteps.{args-none, args-other, expr-bad, name-read, num-read}
+use Rattle.sheets.proofs.ExprSteps.{not-close, args-none, args-other, expr-bad, name-read, num-read}
 use Rattle.sheets.proofs.Inverse.{not-read, arg-read, form-read}
 use Rattle.sheets.proofs.Spans.{holds-at}
 use Rattle.sheets.proofs.ExprLaws.{ExprAt, expr-sound}
@@ -154,9 +154,6 @@ module _ (s : List ℕ) (at b : ℕ) (eb : b ≡ getD s at 0) (depth : ℕ) (ps 
 
 -- ---- the arguments
 
-not-close : (b : ℕ) → b ≡ 32 → b ≡ 41 → ⊥
-not-close b h e = omega arith
-
 have-none : (s : List ℕ) (at depth left key : ℕ) (ps : Known Kind) (r : KeyRead) → Read.Bad ≡ place (readArgs (readExpr depth s) left s at) → ArgsHave s at depth left key ps r
 have-none s at depth left key ps r h = record { is = λ xs n g. not-read (readArgs (readExpr depth s) left s at) xs n h g }
 
@@ -181,7 +178,7 @@ module _ (s : List ℕ) (at b : ℕ) (eb : b ≡ getD s at 0) (depth left key : 
   module _ (h : b ≡ 32) (l : left ≡ 0 → ⊥) (r : KindRead) (hr : ExprHas s (at + 1) depth ps r) where
     more-read : (xs : Exprs) (n : ℕ) → readArgs (readExpr depth s) left s at ≡ got xs n
         → (x : Expr) × (m : ℕ) × (ys : Exprs) × (readExpr depth s (at + 1) ≡ got x m) × (readArgs (readExpr depth s) (left - 1) s m ≡ got ys n) × (xs ≡ x ▸ ys)
-    more-read xs n e = arg-read (readExpr depth s) s at b eb left (not-close b h) l h xs n e
+    more-read xs n e = arg-read (readExpr depth s) s at b eb left l h xs n e
 
     pub have-refused : (number : ℕ) → r ≡ KindRead.Refused number → ArgsHave s at depth left key ps (KeyRead.Refused number)
     unfolding kindsOfExprs keySaid kindSaid

@@ -110,31 +110,27 @@ pub fn bracket(
     let mut i = at;
     let mut left: usize = 5;
     let mut a = [Value::Number(0.0); 5];
-    while 0 < left {
-        let b = byte(s, i);
-        if b == 41 {
-            return row_value(e, code, a, 5 - left, i + 1);
-        }
-        if b == 32 {
-            let r = eval(s, i + 1, depth, e, kinds, rows);
-            match r {
-                Evaluated::Sticks => {
-                    return Evaluated::Sticks;
-                }
-                Evaluated::Stops(k) => {
-                    return Evaluated::Stops(k);
-                }
-                Evaluated::Is(v, end) => {
-                    a[5 - left] = v;
-                    i = end;
-                    left -= 1;
-                }
-            }
-        } else {
+    let mut b = byte(s, at);
+    while b == 32 {
+        if left == 0 {
             return Evaluated::Sticks;
         }
+        let r = eval(s, i + 1, depth, e, kinds, rows);
+        match r {
+            Evaluated::Sticks => {
+                return Evaluated::Sticks;
+            }
+            Evaluated::Stops(k) => {
+                return Evaluated::Stops(k);
+            }
+            Evaluated::Is(v, end) => {
+                a[5 - left] = v;
+                i = end;
+                left -= 1;
+                b = byte(s, i);
+            }
+        }
     }
-    let b = byte(s, i);
     if b == 41 {
         return row_value(e, code, a, 5 - left, i + 1);
     }

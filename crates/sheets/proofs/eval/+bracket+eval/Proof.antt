@@ -7,11 +7,12 @@ use lib.ListN.{length, take, length-set}
 use borrow.Author.Needs.{needs}
 use borrow.Fn.Kinds.{In}
 use borrow.Fn.PlainCycle.{Measures, is, falls, and}
+use Rattle.sheets.specs.Views.{ByteAt}
 use Rattle.sheets.specs.Evaluating.{BracketWith}
 use Rattle.sheets.specs.declared.eval.Evaluated.{Evaluated}
-use Rattle.sheets.proofs.ExprSteps.{args-none, args-other, expr-deep, expr-no-word}
+use Rattle.sheets.proofs.ExprSteps.{expr-deep, expr-no-word}
 use Rattle.sheets.proofs.EvalSteps.{evals-bad, evals-leaf, push-more}
-use Rattle.sheets.proofs.BracketSteps.{evals-form, bracket-bad, bracket-closed, bracket-stopped, bracket-stuck, bracket-more}
+use Rattle.sheets.proofs.BracketSteps.{evals-form, bracket-closed, bracket-sixth, bracket-other, bracket-stopped, bracket-stuck, bracket-more}
 use Rattle.sheets.proofs.eval.eval.Reads as eval
 use Rattle.sheets.proofs.eval.eval.Kinds as eval-kinds
 use Rattle.sheets.proofs.eval.+bracket+eval.Lts-eval as eval-lts
@@ -24,12 +25,6 @@ use Rattle.sheets.proofs.bytes.byte.Reads as byte-reads
 use Rattle.sheets.proofs.bytes.word.Reads as word-reads
 use Rattle.sheets.proofs.eval.+bracket+eval.{statement}
 use Rattle.sheets.proofs.eval.+bracket+eval.Tie.{close}
-
-not-zero : (n : ℕ) → 0 < n → n ≡ 0 → ⊥
-not-zero n h e = omega arith
-
-is-zero : (n : ℕ) → n ≤ 0 → n ≡ 0
-is-zero n h = omega arith
 
 abbrev μ-eval : Measures 3 eval-kinds.ps ℕ
 μ-eval κs a = a .1 .1 .0 * 2
@@ -53,7 +48,7 @@ abbrev eval-claims : ℕ → eval-lts.Claims
 eval-claims t = (byte-reads.Asked, byte-reads.Learnt, word-reads.Asked, word-reads.Learnt, bracket-below t, bracket.Post, leaf-reads.Asked, leaf-reads.Learnt)
 
 abbrev bracket-claims : ℕ → bracket-lts.Claims
-bracket-claims t = (byte-reads.Asked, byte-reads.Learnt, row-value-reads.Asked, row-value-reads.Learnt, eval-below t, eval.Post)
+bracket-claims t = (byte-reads.Asked, byte-reads.Learnt, eval-below t, eval.Post, row-value-reads.Asked, row-value-reads.Learnt)
 
 eval-byte-requires : (t : ℕ) → eval-lts.Need-byte-requires (eval-claims t) (eval-at t) eval.Post
 eval-byte-requires t c κs = search needs
@@ -92,31 +87,23 @@ eval-returns-4 : (t : ℕ) → eval-lts.Need-returns-4 (eval-claims t) (eval-at 
 eval-returns-4 t c = evals-leaf _ _ _ (c .before .before .byte .ensures .is) _ _ _ _ (c .before .if1 .left) _ (c .leaf .ensures)
 
 abbrev bracket-Inv-loop : bracket-lts.InvT-loop
-bracket-Inv-loop s at depth e code kinds rows i₀ left₀ a₀ i left a = (left ≤ 5) × ((q : Evaluated) → BracketWith s i depth left e code kinds rows (take (5 - left) a) q → BracketWith s at depth 5 e code kinds rows [] q) × (length a ≡ 5)
+bracket-Inv-loop s at depth e code kinds rows i₀ left₀ a₀ b₀ i left a b =
+    ByteAt s i b × (left ≤ 5) × ((q : Evaluated) → BracketWith s i depth left e code kinds rows (take (5 - left) a) q → BracketWith s at depth 5 e code kinds rows [] q) × (length a ≡ 5)
 
 abbrev bracket-μ-loop : bracket-lts.MeasureT-loop
-bracket-μ-loop s at depth e code kinds rows i₀ left₀ a₀ i left a = left
-
-bracket-loop-holds : (t : ℕ) → bracket-lts.Need-loop-holds (bracket-claims t) (bracket-at t) bracket.Post bracket-Inv-loop bracket-μ-loop
-bracket-loop-holds t c = (omega arith, λ q h. h, refl)
+bracket-μ-loop s at depth e code kinds rows i₀ left₀ a₀ b₀ i left a b = left
 
 bracket-byte-requires : (t : ℕ) → bracket-lts.Need-byte-requires (bracket-claims t) (bracket-at t) bracket.Post bracket-Inv-loop bracket-μ-loop
 bracket-byte-requires t c κs = search needs
 
-bracket-sub-row-value : (t : ℕ) → bracket-lts.Need-sub-row-value (bracket-claims t) (bracket-at t) bracket.Post bracket-Inv-loop bracket-μ-loop
-bracket-sub-row-value t c = omega arith
-
-bracket-add-row-value : (t : ℕ) → bracket-lts.Need-add-row-value (bracket-claims t) (bracket-at t) bracket.Post bracket-Inv-loop bracket-μ-loop
-bracket-add-row-value t c = omega arith
-
-bracket-row-value-requires : (t : ℕ) → bracket-lts.Need-row-value-requires (bracket-claims t) (bracket-at t) bracket.Post bracket-Inv-loop bracket-μ-loop
-bracket-row-value-requires t c κs = search needs
+bracket-loop-holds : (t : ℕ) → bracket-lts.Need-loop-holds (bracket-claims t) (bracket-at t) bracket.Post bracket-Inv-loop bracket-μ-loop
+bracket-loop-holds t c = (c .byte .ensures, omega arith, λ q h. h, refl)
 
 bracket-returns : (t : ℕ) → bracket-lts.Need-returns (bracket-claims t) (bracket-at t) bracket.Post bracket-Inv-loop bracket-μ-loop
-bracket-returns t c = c .before .before .before .before .loop .inv .1 _ (record { is = λ ps rd. bracket-closed _ _ _ (c .before .before .byte .ensures .is) _ _ _ _ _ _ (c .before .if1 .taken) _ (c .row-value .ensures) })
+bracket-returns t c = c .before .before .loop .inv .2 _ (record { is = λ ps rd. bracket-sixth _ _ _ (c .before .before .loop .inv .0 .is) _ _ _ _ _ _ (c .before .loop-test .taken) (c .if1 .taken) _ })
 
 bracket-add-eval : (t : ℕ) → bracket-lts.Need-add-eval (bracket-claims t) (bracket-at t) bracket.Post bracket-Inv-loop bracket-μ-loop
-bracket-add-eval t c = omega arith
+bracket-add-eval t c = omega (arith, c .before .before .loop .inv .0 .inside)
 
 bracket-eval-requires : (t : ℕ) → bracket-lts.Need-eval-requires (bracket-claims t) (bracket-at t) bracket.Post bracket-Inv-loop bracket-μ-loop
 bracket-eval-requires t c κs = (omega arith, tt)
@@ -125,13 +112,13 @@ bracket-enum-told : (t : ℕ) → bracket-lts.Need-enum-told (bracket-claims t) 
 bracket-enum-told t c = search needs
 
 bracket-returns-2 : (t : ℕ) → bracket-lts.Need-returns-2 (bracket-claims t) (bracket-at t) bracket.Post bracket-Inv-loop bracket-μ-loop
-bracket-returns-2 t c = c .before .before .before .before .before .before .before .loop .inv .1 _ (record { is = λ ps rd. bracket-stuck _ _ _ (c .before .before .before .before .before .byte .ensures .is) _ _ _ _ _ _ (c .before .before .before .before .if1 .left) (not-zero _ (c .before .before .before .before .before .before .loop-test .taken)) (c .before .before .before .if2 .taken) _ (c .before .before .eval .ensures .is ps rd _ refl (sym (c .before .before .before .before .before .byte .ensures .is) ∙ c .before .before .before .if2 .taken)) (c .enum-told .given .1) })
+bracket-returns-2 t c = c .before .before .before .before .before .loop .inv .2 _ (record { is = λ ps rd. bracket-stuck _ _ _ (c .before .before .before .before .before .loop .inv .0 .is) _ _ _ _ _ _ (c .before .before .before .before .loop-test .taken) (c .before .before .before .if1 .left) _ (c .before .before .eval .ensures .is ps rd _ refl (sym (c .before .before .before .before .before .loop .inv .0 .is) ∙ c .before .before .before .before .loop-test .taken)) (c .enum-told .given .1) })
 
 bracket-enum-known-r : (t : ℕ) → bracket-lts.Need-enum-known-r (bracket-claims t) (bracket-at t) bracket.Post bracket-Inv-loop bracket-μ-loop
 bracket-enum-known-r t c = search needs
 
 bracket-returns-3 : (t : ℕ) → bracket-lts.Need-returns-3 (bracket-claims t) (bracket-at t) bracket.Post bracket-Inv-loop bracket-μ-loop
-bracket-returns-3 t c = c .before .before .before .before .before .before .before .before .loop .inv .1 _ (record { is = λ ps rd. bracket-stopped _ _ _ (c .before .before .before .before .before .before .byte .ensures .is) _ _ _ _ _ _ (c .before .before .before .before .before .if1 .left) (not-zero _ (c .before .before .before .before .before .before .before .loop-test .taken)) (c .before .before .before .before .if2 .taken) _ (c .before .before .before .eval .ensures .is ps rd _ refl (sym (c .before .before .before .before .before .before .byte .ensures .is) ∙ c .before .before .before .before .if2 .taken)) _ (c .before .r .given .1) })
+bracket-returns-3 t c = c .before .before .before .before .before .before .loop .inv .2 _ (record { is = λ ps rd. bracket-stopped _ _ _ (c .before .before .before .before .before .before .loop .inv .0 .is) _ _ _ _ _ _ (c .before .before .before .before .before .loop-test .taken) (c .before .before .before .before .if1 .left) _ (c .before .before .before .eval .ensures .is ps rd _ refl (sym (c .before .before .before .before .before .before .loop .inv .0 .is) ∙ c .before .before .before .before .before .loop-test .taken)) _ (c .before .r .given .1) })
 
 bracket-enum-known-r-2 : (t : ℕ) → bracket-lts.Need-enum-known-r-2 (bracket-claims t) (bracket-at t) bracket.Post bracket-Inv-loop bracket-μ-loop
 bracket-enum-known-r-2 t c = search needs
@@ -148,32 +135,35 @@ bracket-array-set-from-a t c = omega arith
 bracket-sub-left : (t : ℕ) → bracket-lts.Need-sub-left (bracket-claims t) (bracket-at t) bracket.Post bracket-Inv-loop bracket-μ-loop
 bracket-sub-left t c = omega arith
 
+bracket-byte-requires-2 : (t : ℕ) → bracket-lts.Need-byte-requires-2 (bracket-claims t) (bracket-at t) bracket.Post bracket-Inv-loop bracket-μ-loop
+bracket-byte-requires-2 t c κs = search needs
+
 bracket-loop-less : (t : ℕ) → bracket-lts.Need-loop-less (bracket-claims t) (bracket-at t) bracket.Post bracket-Inv-loop bracket-μ-loop
 bracket-loop-less t c = omega arith
 
 bracket-loop-again : (t : ℕ) → bracket-lts.Need-loop-again (bracket-claims t) (bracket-at t) bracket.Post bracket-Inv-loop bracket-μ-loop
-bracket-loop-again t c = let p = push-more _ (c .before .r2 .given .0 .0) _ (c .before .before .before .before .before .before .before .before .loop .inv .2) (c .before .before .before .before .before .before .before .loop-test .taken) (c .before .before .before .before .before .before .before .before .loop .inv .0) in (omega (arith, c .before .before .before .before .before .before .before .before .loop .inv .0), λ q h. c .before .before .before .before .before .before .before .before .loop .inv .1 q (record { is = λ ps rd. bracket-more _ _ _ (c .before .before .before .before .before .before .byte .ensures .is) _ _ _ _ _ _ (c .before .before .before .before .before .if1 .left) (not-zero _ (c .before .before .before .before .before .before .before .loop-test .taken)) (c .before .before .before .before .if2 .taken) _ (c .before .before .before .eval .ensures .is ps rd _ refl (sym (c .before .before .before .before .before .before .byte .ensures .is) ∙ c .before .before .before .before .if2 .taken)) _ _ (c .before .r2 .given .1) _ p q (h .is ps rd) }), simp length-set (c .before .before .before .before .before .before .before .before .loop .inv .2))
+bracket-loop-again t c =
+    let p = push-more _ (c .before .before .r2 .given .0 .0) _ (c .before .before .before .before .before .before .before .loop .inv .3) (omega (arith, c .before .before .before .before .before .if1 .left)) (c .before .before .before .before .before .before .before .loop .inv .1) in (
+      c .byte2 .ensures,
+      omega (arith, c .before .before .before .before .before .before .before .loop .inv .1),
+      λ q h. c .before .before .before .before .before .before .before .loop .inv .2 q (record { is = λ ps rd. bracket-more _ _ _ (c .before .before .before .before .before .before .before .loop .inv .0 .is) _ _ _ _ _ _ (c .before .before .before .before .before .before .loop-test .taken) (c .before .before .before .before .before .if1 .left) _ (c .before .before .before .before .eval .ensures .is ps rd _ refl (sym (c .before .before .before .before .before .before .before .loop .inv .0 .is) ∙ c .before .before .before .before .before .before .loop-test .taken)) _ _ (c .before .before .r2 .given .1) _ p q (h .is ps rd) }),
+      simp length-set (c .before .before .before .before .before .before .before .loop .inv .3),
+    )
+
+bracket-sub-row-value : (t : ℕ) → bracket-lts.Need-sub-row-value (bracket-claims t) (bracket-at t) bracket.Post bracket-Inv-loop bracket-μ-loop
+bracket-sub-row-value t c = omega arith
+
+bracket-add-row-value : (t : ℕ) → bracket-lts.Need-add-row-value (bracket-claims t) (bracket-at t) bracket.Post bracket-Inv-loop bracket-μ-loop
+bracket-add-row-value t c = omega (arith, c .before .before .loop .inv .0 .inside)
+
+bracket-row-value-requires : (t : ℕ) → bracket-lts.Need-row-value-requires (bracket-claims t) (bracket-at t) bracket.Post bracket-Inv-loop bracket-μ-loop
+bracket-row-value-requires t c κs = search needs
 
 bracket-returns-4 : (t : ℕ) → bracket-lts.Need-returns-4 (bracket-claims t) (bracket-at t) bracket.Post bracket-Inv-loop bracket-μ-loop
-bracket-returns-4 t c = c .before .before .before .before .loop .inv .1 _ (record { is = λ ps rd. bracket-bad _ _ _ _ _ _ _ _ _ (args-other _ _ _ _ (c .before .before .byte .ensures .is) _ (c .before .if1 .left) (c .if2 .left)) })
-
-bracket-byte-requires-2 : (t : ℕ) → bracket-lts.Need-byte-requires-2 (bracket-claims t) (bracket-at t) bracket.Post bracket-Inv-loop bracket-μ-loop
-bracket-byte-requires-2 t c κs = search needs
-
-bracket-sub-row-value-2 : (t : ℕ) → bracket-lts.Need-sub-row-value-2 (bracket-claims t) (bracket-at t) bracket.Post bracket-Inv-loop bracket-μ-loop
-bracket-sub-row-value-2 t c = omega arith
-
-bracket-add-row-value-2 : (t : ℕ) → bracket-lts.Need-add-row-value-2 (bracket-claims t) (bracket-at t) bracket.Post bracket-Inv-loop bracket-μ-loop
-bracket-add-row-value-2 t c = omega arith
-
-bracket-row-value-requires-2 : (t : ℕ) → bracket-lts.Need-row-value-requires-2 (bracket-claims t) (bracket-at t) bracket.Post bracket-Inv-loop bracket-μ-loop
-bracket-row-value-requires-2 t c κs = search needs
+bracket-returns-4 t c = c .before .before .before .loop .inv .2 _ (record { is = λ ps rd. bracket-closed _ _ _ (c .before .before .before .loop .inv .0 .is) _ _ _ _ _ _ (c .before .if2 .taken) _ (c .row-value .ensures) })
 
 bracket-returns-5 : (t : ℕ) → bracket-lts.Need-returns-5 (bracket-claims t) (bracket-at t) bracket.Post bracket-Inv-loop bracket-μ-loop
-bracket-returns-5 t c = c .before .before .before .before .loop .inv .1 _ (record { is = λ ps rd. bracket-closed _ _ _ (c .before .before .byte2 .ensures .is) _ _ _ _ _ _ (c .before .if3 .taken) _ (c .row-value2 .ensures) })
-
-bracket-returns-6 : (t : ℕ) → bracket-lts.Need-returns-6 (bracket-claims t) (bracket-at t) bracket.Post bracket-Inv-loop bracket-μ-loop
-bracket-returns-6 t c = c .before .before .before .loop .inv .1 _ (record { is = λ ps rd. bracket-bad _ _ _ _ _ _ _ _ _ (args-none _ _ _ _ (c .before .byte2 .ensures .is) _ (c .if3 .left) (is-zero _ (c .before .before .loop-test .left))) })
+bracket-returns-5 t c = c .before .before .loop .inv .2 _ (record { is = λ ps rd. bracket-other _ _ _ (c .before .before .loop .inv .0 .is) _ _ _ _ _ _ (c .before .loop-test .left) (c .if2 .left) _ })
 
 pub +bracket+eval-spec : {M : Type 1} → statement M
 +bracket+eval-spec = close μ-bracket μ-eval (λ t. bracket-lts.spec (bracket-claims t)
@@ -181,11 +171,8 @@ pub +bracket+eval-spec : {M : Type 1} → statement M
     bracket.Post
     bracket-Inv-loop
     bracket-μ-loop
-    (bracket-loop-holds t)
     (bracket-byte-requires t)
-    (bracket-sub-row-value t)
-    (bracket-add-row-value t)
-    (bracket-row-value-requires t)
+    (bracket-loop-holds t)
     (bracket-returns t)
     (bracket-add-eval t)
     (bracket-eval-requires t)
@@ -198,15 +185,14 @@ pub +bracket+eval-spec : {M : Type 1} → statement M
     (bracket-mul-a t)
     (bracket-array-set-from-a t)
     (bracket-sub-left t)
+    (bracket-byte-requires-2 t)
     (bracket-loop-less t)
     (bracket-loop-again t)
+    (bracket-sub-row-value t)
+    (bracket-add-row-value t)
+    (bracket-row-value-requires t)
     (bracket-returns-4 t)
-    (bracket-byte-requires-2 t)
-    (bracket-sub-row-value-2 t)
-    (bracket-add-row-value-2 t)
-    (bracket-row-value-requires-2 t)
-    (bracket-returns-5 t)
-    (bracket-returns-6 t))
+    (bracket-returns-5 t))
     λ t. eval-lts.spec (eval-claims t)
     (eval-at t)
     eval.Post

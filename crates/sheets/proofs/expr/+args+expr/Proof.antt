@@ -73,10 +73,10 @@ args-args-requires : (t : ℕ) → args-lts.Need-args-requires (args-claims t) (
 args-args-requires t c κs = (omega arith, tt)
 
 args-returns-3 : (t : ℕ) → args-lts.Need-returns-3 (args-claims t) (args-at t) args.Post
-args-returns-3 t c = args-bad _ _ _ _ (c .before .before .before .before .before .before .byte .ensures .is) _ (c .before .before .before .before .before .if1 .left) (c .before .before .before .before .if2 .left) (c .before .before .before .if3 .taken) _ (c .before .before .expr .ensures) (c .enum-told .given .1)
+args-returns-3 t c = args-bad _ _ _ _ (c .before .before .before .before .before .before .byte .ensures .is) _ (c .before .before .before .before .if2 .left) (c .before .before .before .if3 .taken) _ (c .before .before .expr .ensures) (c .enum-told .given .1)
 
 args-returns-4 : (t : ℕ) → args-lts.Need-returns-4 (args-claims t) (args-at t) args.Post
-args-returns-4 t c = args-more _ _ _ _ (c .before .before .before .before .before .before .before .before .byte .ensures .is) _ (c .before .before .before .before .before .before .before .if1 .left) (c .before .before .before .before .before .before .if2 .left) (c .before .before .before .before .before .if3 .taken) _ (c .before .before .before .before .expr .ensures) _ (c .before .before .e .given .1) _ (c .args2 .ensures)
+args-returns-4 t c = args-more _ _ _ _ (c .before .before .before .before .before .before .before .before .byte .ensures .is) _ (c .before .before .before .before .before .before .if2 .left) (c .before .before .before .before .before .if3 .taken) _ (c .before .before .before .before .expr .ensures) _ (c .before .before .e .given .1) _ (c .args2 .ensures)
 
 args-returns-5 : (t : ℕ) → args-lts.Need-returns-5 (args-claims t) (args-at t) args.Post
 args-returns-5 t c = args-other _ _ _ _ (c .before .before .before .byte .ensures .is) _ (c .before .before .if1 .left) (c .if3 .left)
