@@ -2,3 +2,4 @@ pub mod ReadingSteps
 pub mod MessageSteps
 pub mod Written
 pub mod Spelled
+pub mod FormatLaws

@@ -14,7 +14,8 @@ use Rattle.sheets.specs.Views.{doubled}
 use Rattle.sheets.specs.declared.num.DoubleRead.{DoubleRead}
 use Rattle.boresheet.specs.declared.readings.Found.{Found}
 use Rattle.boresheet.specs.declared.readings.Readings.{Readings}
-use Rattle.boresheet.specs.Readings.{hexNumber, hexIf, hexFrom, hexAt, endIf, endedAt, orElse, readingAt, noReadings, lastly, lineIf, readingsFrom}
+use Rattle.boresheet.specs.Format.{hexNumber, noReadings}
+use Rattle.boresheet.specs.Readings.{hexIf, hexFrom, hexAt, endIf, endedAt, orElse, readingAt, lastly, lineIf, readingsFrom}
 
 -- ---- hexadecimal digits
 

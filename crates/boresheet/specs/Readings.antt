@@ -1,10 +1,10 @@
--- A file of readings: sixteen lines, each ended by LF, and nothing behind them.
--- A line is a NUM as in a sheet, or the sixteen hexadecimal digits, of either case, of a double's bits. (No line can be both: a NUM's digits are at most 9 without a point.)
-use Prim.Native.Nat.{ℕ, zero, suc, _+_, _-_, _*_}
-use mathlib.Core.Bool.{Bool, true, false, cond, _&&_}
+-- A reader of files of readings, by places.
+-- No part of what must be believed: that it reads exactly the files of Format.antt, and what it answers of any other, is proved (proofs/FormatLaws.antt), and the code is proved against it.
+use Prim.Native.Nat.{ℕ, zero, suc, _+_, _*_}
+use mathlib.Core.Bool.{Bool, true, false}
 use mathlib.Core.List.{List, [], _∷_, _++_}
 use lib.Dec.{eqb, leb}
-use lib.ListN.{length, getD, replicate}
+use lib.ListN.{length, getD}
 use lib.Ieee.{Float, binary64, ofBits}
 use Rattle.sheets.specs.Reader.{readNum}
 use Rattle.sheets.specs.Views.{doubled}
@@ -12,12 +12,9 @@ use Rattle.sheets.specs.declared.num.DoubleRead.{DoubleRead}
 use Rattle.sheets.specs.declared.num.DoubleRead.the-variants.{Is, Not}
 use Rattle.boresheet.specs.declared.readings.Found.{Found}
 use Rattle.boresheet.specs.declared.readings.Readings.{Readings}
+use Rattle.boresheet.specs.Format.{hexNumber, noReadings}
 
 -- ---- a line
-
--- 0 to 15 for 0 to 9, a to f and A to F, 16 for any other byte
-unfoldable pub hexNumber : ℕ → ℕ
-hexNumber b = cond (leb 48 b && leb b 57) (b - 48) (cond (leb 65 b && leb b 70) (b - 55) (cond (leb 97 b && leb b 102) (b - 87) 16))
 
 unfoldable pub hexIf : Bool → (ℕ → DoubleRead) → ℕ → DoubleRead
 hexIf true rest at = Not
@@ -49,10 +46,6 @@ unfoldable pub readingAt : List ℕ → ℕ → DoubleRead
 readingAt s at = orElse (endedAt s (doubled (readNum s at))) (endedAt s (hexAt s at))
 
 -- ---- the file
-
--- no readings: sixteen zeros
-unfoldable pub noReadings : Found → Readings
-noReadings f = record { found = f; values = replicate 16 (ofBits binary64 0) }
 
 unfoldable pub lastly : Bool → List Float → Readings
 lastly true xs = record { found = Found.All; values = xs }

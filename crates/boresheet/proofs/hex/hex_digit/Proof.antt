@@ -1,7 +1,7 @@
 -- `boresheet::hex::hex_digit` meets its contract. Assumes nothing.
 use native.Mathlib.Omega.{arith}
 use borrow.Author.Tests.{le-leb, lt-leb}
-use Rattle.boresheet.specs.Readings.{hexNumber}
+use Rattle.boresheet.specs.Format.{hexNumber}
 use borrow.Author.Needs.{needs}
 use Rattle.boresheet.proofs.hex.hex_digit.Statement.{statement}
 use Rattle.boresheet.proofs.hex.hex_digit.Tie as tie

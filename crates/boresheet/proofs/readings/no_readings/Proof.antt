@@ -1,6 +1,6 @@
 -- `boresheet::readings::no_readings` meets its contract. Assumes nothing.
 use mathlib.Core.Path.{refl}
-use Rattle.boresheet.specs.Readings.{noReadings}
+use Rattle.boresheet.specs.Format.{noReadings}
 use Rattle.boresheet.proofs.readings.no_readings.Statement.{statement}
 use Rattle.boresheet.proofs.readings.no_readings.Tie as tie
 
