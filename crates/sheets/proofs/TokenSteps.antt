@@ -1,13 +1,13 @@
 -- Words and numbers, a step at a time, as the code reads them: a law for each way out of `word`, `digits`, `num_whole` and `num`. Assumes nothing.
-use Prim.Native.Nat.{ℕ, zero, suc, _+_, _-_, _*_, _^_, _<_, _≤_}
+use Prim.Native.Nat.{ℕ, zero, suc, _+_, _-_, _*_, _^_, _<_, _≤_, min}
 use native.Mathlib.Nat.{pow-suc, pow-le-pow-right, suc-mul, mul-le-mul-right}
 use native.Mathlib.Omega.{arith}
 use mathlib.Core.Path.{_≡_, refl, sym, ap, ap₂, _∙_}
 use mathlib.Core.Bool.{Bool, true, false, cond}
 use mathlib.Core.List.{List, [], _∷_}
 use lib.Dec.{eqb, leb}
-use lib.ListN.{length, getD}
-use borrow.Author.Tests.{eq-eqb, ne-eqb}
+use lib.ListN.{length, getD, List·getD-eq-default}
+use borrow.Author.Tests.{eq-eqb, ne-eqb, leb-true, leb-false}
 use Rattle.sheets.specs.Trees.{decimalFrom}
 use Rattle.sheets.specs.Codes.{letter, wordChar, digit, codeFrom}
 use Rattle.sheets.specs.Reader.{chars, wordIf, readWord, partEnd, partIf, wholeStep, readWhole, signIf, readNum}
@@ -57,28 +57,41 @@ letter-char b = go (leb 97 b)
     go true h = refl
     go false h = absurd (h refl)
 
-pub word-some : (s : List ℕ) (at b d : ℕ) → b ≡ getD s at 0 → d ≡ letter b → (d ≡ 0 → ⊥) → wordOf d (chars wordChar 11 s (at + 1)) (at + 1) ≡ coded (readWord s at)
+pub word-some : (s : List ℕ) (at b d : ℕ) → b ≡ getD s at 0 → d ≡ letter b → (d ≡ 0 → ⊥) → wordOf d (chars wordChar (at + 12 - (at + 1)) s (at + 1)) (at + 1) ≡ coded (readWord s at)
 unfolding readWord wordIf coded codeFrom
 word-some s at b d eb ed h =
     let e : d ≡ letter (getD s at 0) = cc in
     let n : letter (getD s at 0) ≡ 0 → ⊥ = rw e at h in
     let l : d ≡ 0 * 37 + wordChar (getD s at 0) = e ∙ letter-char (getD s at 0) n ∙ omega arith in
-    rw (ne-eqb (letter (getD s at 0)) 0 n)
+    let k : at + 12 - (at + 1) ≡ 11 = omega arith in
+    rw (ne-eqb (letter (getD s at 0)) 0 n, k)
     (ap₂ (λ x y. WordRead.Is (codeFrom x (chars wordChar 11 s (at + 1))) y) l (omega arith))
 
-module _ (s : List ℕ) (b d code i left : ℕ) (r : WordRead) (eb : b ≡ getD s i 0) (ed : d ≡ wordChar b) where
-  pub word-turn : 0 < left → (d ≡ 0 → ⊥) → wordOf code (chars wordChar left s i) i ≡ r → wordOf (code * 37 + d) (chars wordChar (left - 1) s (i + 1)) (i + 1) ≡ r
+-- a word's code stays below the power of 37 for its characters so far: one, and one more before the place `top`, where the word ends at the latest
+pub word-small : (at d : ℕ) → d < 37 → d < 37 ^ (12 - (at + 12 - (at + 1)))
+word-small at d h = let e : 12 - (at + 12 - (at + 1)) ≡ 1 = omega arith in rw e (omega arith)
+
+pub word-grow : (top i code d : ℕ) → i < top → top - i ≤ 12 → code < 37 ^ (12 - (top - i)) → d < 37 → code * 37 + d < 37 ^ (12 - (top - (i + 1)))
+word-grow top i code d pos le h hd = let e : top - (i + 1) ≡ top - i - 1 = omega arith in rw e (grow 37 12 (top - i) code d (omega arith) le h hd)
+
+module _ (s : List ℕ) (d code i top : ℕ) (r : WordRead) (ed : d ≡ wordChar (getD s i 0)) where
+  pub word-turn : i < top → (d ≡ 0 → ⊥) → wordOf code (chars wordChar (top - i) s i) i ≡ r → wordOf (code * 37 + d) (chars wordChar (top - (i + 1)) s (i + 1)) (i + 1) ≡ r
   unfolding codeFrom
   word-turn pos h inv =
-      let e : d ≡ wordChar (getD s i 0) = cc in
-      let k = rw (chars-more wordChar s left i pos (rw e at h)) at inv in
-      ap₂ (λ x y. WordRead.Is (codeFrom (code * 37 + x) (chars wordChar (left - 1) s (i + 1))) y) e (omega arith) ∙ k
+      let e : top - (i + 1) ≡ top - i - 1 = omega arith in
+      let k = rw (chars-more wordChar s (top - i) i (omega arith) (rw ed at h)) at inv in
+      rw e (ap₂ (λ x y. WordRead.Is (codeFrom (code * 37 + x) (chars wordChar (top - i - 1) s (i + 1))) y) ed (omega arith) ∙ k)
 
-  pub word-stop : d ≡ 0 → wordOf code (chars wordChar left s i) i ≡ r → WordRead.Is code i ≡ r
-  word-stop h inv = word-ends code i _ r (chars-stop wordChar s left i (cc)) inv
+  pub word-stop : d ≡ 0 → wordOf code (chars wordChar (top - i) s i) i ≡ r → WordRead.Is code i ≡ r
+  word-stop h inv = word-ends code i _ r (chars-stop wordChar s (top - i) i (cc)) inv
 
-pub word-end : (s : List ℕ) (code i left : ℕ) (r : WordRead) → left ≤ 0 → wordOf code (chars wordChar left s i) i ≡ r → WordRead.Is code i ≡ r
-word-end s code i left r h inv = word-ends code i _ r (chars-none wordChar s left i h) inv
+pub word-end : (s : List ℕ) (code i top : ℕ) (r : WordRead) → min (length s) top ≤ i → wordOf code (chars wordChar (top - i) s i) i ≡ r → WordRead.Is code i ≡ r
+unfolding wordChar
+word-end s code i top r h inv = word-ends code i _ r (go (leb top i) refl) inv
+  where
+    go : (b : Bool) → leb top i ≡ b → chars wordChar (top - i) s i ≡ []
+    go true q = chars-none wordChar s (top - i) i (omega (arith, leb-true top i q))
+    go false q = chars-stop wordChar s (top - i) i (ap wordChar (List·getD-eq-default s 0 (omega (arith, leb-false top i q))))
 
 -- ---- digits
 abbrev pub digitsOf : ℕ → ℕ → List ℕ → ℕ → DigitsRead

@@ -20,24 +20,24 @@ returns c = record {
   from-byte = omega arith;
 }
 
-returns-2 : tie.Need-returns-2
-unfolding wordChar
-returns-2 c = record {
-  is = simp (le-leb _ _ (c .before .if1 .taken), lt-leb _ _ (c .if2 .left));
-  small = omega arith;
-  from-byte = omega arith;
-}
-
 sub-result-2 : tie.Need-sub-result-2
 sub-result-2 c = search needs
 
 cast-result-2 : tie.Need-cast-result-2
 cast-result-2 c = search needs
 
+returns-2 : tie.Need-returns-2
+unfolding wordChar
+returns-2 c = record {
+  is = simp (lt-leb _ _ (c .before .before .if2 .left), le-leb _ _ (c .before .if3 .taken), le-leb _ _ (c .if4 .taken));
+  small = omega arith;
+  from-byte = omega arith;
+}
+
 returns-3 : tie.Need-returns-3
 unfolding wordChar
 returns-3 c = record {
-  is = simp (lt-leb _ _ (c .before .before .if1 .left), le-leb _ _ (c .before .if3 .taken), le-leb _ _ (c .if4 .taken));
+  is = simp (lt-leb _ _ (c .before .before .if2 .left), lt-leb _ _ (c .if4 .left));
   small = omega arith;
   from-byte = omega arith;
 }
@@ -45,7 +45,7 @@ returns-3 c = record {
 returns-4 : tie.Need-returns-4
 unfolding wordChar
 returns-4 c = record {
-  is = simp (lt-leb _ _ (c .before .before .if1 .left), le-leb _ _ (c .before .if3 .taken), lt-leb _ _ (c .if4 .left));
+  is = simp (lt-leb _ _ (c .before .if2 .left), lt-leb _ _ (c .if3 .left), le-leb 48 (c .before .before .before .args .b) (omega arith));
   small = omega arith;
   from-byte = omega arith;
 }
@@ -53,7 +53,7 @@ returns-4 c = record {
 returns-5 : tie.Need-returns-5
 unfolding wordChar
 returns-5 c = record {
-  is = simp (lt-leb _ _ (c .before .if1 .left), lt-leb _ _ (c .if3 .left));
+  is = simp (lt-leb _ _ (c .if1 .left), le-leb 97 (c .before .args .b) (omega arith));
   small = omega arith;
   from-byte = omega arith;
 }
@@ -65,9 +65,9 @@ word-char-spec =
     sub-result
     cast-result
     returns
-    returns-2
     sub-result-2
     cast-result-2
+    returns-2
     returns-3
     returns-4
     returns-5)
