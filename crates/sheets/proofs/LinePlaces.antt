@@ -40,6 +40,23 @@ show-places l w n e =
     let (i, q, r) = spans-split l w close 6 n (p .1 .1 .1 .1 .1 .1) in
     (i, p .1 .0, p .1 .1 .1 .1 .1 .0, word-complete l w 6 i q (h .0) (close-first l i n r))
 
+-- no space stands before place 4, as three letters stand after the bracket
+late : (l : List ℕ) (a b c : ℕ) → getD l 0 0 ≡ 40 → getD l 1 0 ≡ a → getD l 2 0 ≡ b → getD l 3 0 ≡ c → 96 < a → 96 < b → 96 < c → (p : ℕ) → getD l p 0 ≡ 32 → 4 ≤ p
+late l a b c e₀ e₁ e₂ e₃ ha hb hc zero e = absurd (omega arith)
+late l a b c e₀ e₁ e₂ e₃ ha hb hc (suc zero) e = absurd (omega arith)
+late l a b c e₀ e₁ e₂ e₃ ha hb hc (suc (suc zero)) e = absurd (omega arith)
+late l a b c e₀ e₁ e₂ e₃ ha hb hc (suc (suc (suc zero))) e = absurd (omega arith)
+late l a b c e₀ e₁ e₂ e₃ ha hb hc (suc (suc (suc (suc p)))) e = omega arith
+
+pub space-late : (l : List ℕ) (x : Line) (n : ℕ) → readLine l 0 ≡ got x n → (p : ℕ) → getD l p 0 ≡ 32 → 4 ≤ p
+unfolding Spans
+space-late l (let-line w x) n e =
+    let (q, h, le, lt) = stands l 0 (let-line w x) n e in
+    late l 108 101 116 (q .0) (q .1 .0) (q .1 .1 .0) (q .1 .1 .1 .0) (omega arith) (omega arith) (omega arith)
+space-late l (show-line w) n e =
+    let (q, h, le, lt) = stands l 0 (show-line w) n e in
+    late l 115 104 111 (q .0) (q .1 .0) (q .1 .1 .0) (q .1 .1 .1 .0) (omega arith) (omega arith) (omega arith)
+
 -- ---- the LF
 
 no-lf : (t : List ℕ) → countLF t ≡ 0 → (s : List ℕ) (at n : ℕ) → Spans s t at n → (k : ℕ) → at ≤ k → k < n → getD s k 0 ≡ 10 → ⊥

@@ -78,12 +78,12 @@ unfolding rowsWith
 length-rows fs q (Found.Value v) = simp length-set
 length-rows fs q Found.Unknown = refl
 
--- ---- the words of a line up to the place n are looked up: `found` says what the word with a code is
+-- ---- the words of a line that stand after a space from place 4 up to the place n are looked up: `found` says what the word with a code is
 
 pub record Upto (l ks : List ℕ) (fs : List (List Float)) (found : ℕ → Found) (n : ℕ) : Type 0 where
   pub kinds : length ks ≡ 101
   pub rows : length fs ≡ 101
-  pub is : (p : ℕ) → p < n → getD l p 0 ≡ 32 → (w : Word) (m : ℕ) → readWord l (p + 1) ≡ got w m → operand ks fs ((p + 1) / 2) ≡ found (codeOf w)
+  pub is : (p : ℕ) → 4 ≤ p → p < n → getD l p 0 ≡ 32 → (w : Word) (m : ℕ) → readWord l (p + 1) ≡ got w m → operand ks fs ((p + 1) / 2) ≡ found (codeOf w)
 
 -- no word begins with a space
 no-word : (l : List ℕ) (p : ℕ) → getD l p 0 ≡ 32 → readWord l p ≡ none
@@ -111,14 +111,14 @@ slot-space l n w m e = go (eqb (getD l n 0) 32) refl e
     go false t e = let z : _≡_ {A = ℕ} 0 1 = cc in absurd (omega arith)
 
 module _ (l ks : List ℕ) (fs : List (List Float)) (found : ℕ → Found) where
-  pub upto-none : length ks ≡ 101 → length fs ≡ 101 → Upto l ks fs found 0
-  upto-none ek ef = record { kinds = ek; rows = ef; is = λ p lt h w m e. absurd (omega arith) }
+  pub upto-none : length ks ≡ 101 → length fs ≡ 101 → Upto l ks fs found 4
+  upto-none ek ef = record { kinds = ek; rows = ef; is = λ p low lt h w m e. absurd (omega arith) }
 
   module _ (n : ℕ) (u : Upto l ks fs found n) where
     -- no word after a space here
     pub upto-skip : (r : WordRead) → r ≡ coded (spaced (readWord l) l n) → r ≡ WordRead.Not → Upto l ks fs found (n + 1)
     upto-skip r er h =
-        record { kinds = u .kinds; rows = u .rows; is = λ p lt sp w m e. ⊎-elim (λ a. u .is p a sp w m e) (λ a. absurd (here p a sp w m e)) (last p n lt) }
+        record { kinds = u .kinds; rows = u .rows; is = λ p low lt sp w m e. ⊎-elim (λ a. u .is p low a sp w m e) (λ a. absurd (here p a sp w m e)) (last p n lt) }
       where
         here : (p : ℕ) → p ≡ n → getD l p 0 ≡ 32 → (w : Word) (m : ℕ) → readWord l (p + 1) ≡ got w m → ⊥
         here p a sp w m e =
@@ -132,7 +132,7 @@ module _ (l ks : List ℕ) (fs : List (List Float)) (found : ℕ → Found) wher
     upto-put small r er c k h x ex ks' ek fs' ef = record {
       kinds = rw ek (length-set ks _ _ ∙ u .kinds);
       rows = rw ef (length-rows fs _ x ∙ u .rows);
-      is = λ p lt sp w m e. ⊎-elim (earlier p sp w m e) (λ a. now-put p a w m e) (last p n lt);
+      is = λ p low lt sp w m e. ⊎-elim (earlier p low sp w m e) (λ a. now-put p a w m e) (last p n lt);
     }
       where
         stood : (v : Word) × (spaced (readWord l) l n ≡ got v k) × (c ≡ codeOf v)
@@ -148,22 +148,22 @@ module _ (l ks : List ℕ) (fs : List (List Float)) (found : ℕ → Found) wher
             let iw : stood .0 ≡ w = cc in
             rw (a, ek, ef) (operand-put ks fs ((n + 1) / 2) (omega arith) x (u .kinds) (u .rows) ∙ ex ∙ ap found (stood .2 ∙ ap codeOf iw))
 
-        earlier : (p : ℕ) → getD l p 0 ≡ 32 → (w : Word) (m : ℕ) → readWord l (p + 1) ≡ got w m → p < n → operand ks' fs' ((p + 1) / 2) ≡ found (codeOf w)
-        earlier p sp w m e a = ⊎-elim far near (last (p + 1) n (omega arith))
+        earlier : (p : ℕ) → 4 ≤ p → getD l p 0 ≡ 32 → (w : Word) (m : ℕ) → readWord l (p + 1) ≡ got w m → p < n → operand ks' fs' ((p + 1) / 2) ≡ found (codeOf w)
+        earlier p low sp w m e a = ⊎-elim far near (last (p + 1) n (omega arith))
           where
             far : p + 1 < n → operand ks' fs' ((p + 1) / 2) ≡ found (codeOf w)
-            far f = rw (ek, ef) (operand-kept ks fs ((n + 1) / 2) (omega arith) x ((p + 1) / 2) (omega arith) ∙ u .is p a sp w m e)
+            far f = rw (ek, ef) (operand-kept ks fs ((n + 1) / 2) (omega arith) x ((p + 1) / 2) (omega arith) ∙ u .is p low a sp w m e)
 
             near : p + 1 ≡ n → operand ks' fs' ((p + 1) / 2) ≡ found (codeOf w)
             near f =
                 let i : readWord l (p + 1) ≡ none = no-word l (p + 1) (rw f space) in
                 let z : _≡_ {A = ℕ} 0 1 = cc in absurd (omega arith)
 
--- the whole line, over slots and readings that stand for the known words
-pub upto-ready : (l ks : List ℕ) (fs : List (List Float)) (t : List Slot) (k : ℕ) (rs : List Float) (n : ℕ) → length l ≤ n
+-- the whole line, which has no space before place 4, over slots and readings that stand for the known words
+pub upto-ready : (l ks : List ℕ) (fs : List (List Float)) (t : List Slot) (k : ℕ) (rs : List Float) (n : ℕ) → length l ≤ n → ((p : ℕ) → getD l p 0 ≡ 32 → 4 ≤ p)
     → Upto l ks fs (λ c. orFound (slotFound k t c) (readingFound c rs)) n → (ps : Known Value) → Tabled ps t k rs → Ready l ks fs ps
-upto-ready l ks fs t k rs n h u ps tb = record {
-  is = λ p sp w m e. u .is p (omega (arith, byte-inside l p 32 sp (omega arith))) sp w m e ∙ sym (tb .is w (word-is l (p + 1) w m e));
+upto-ready l ks fs t k rs n h from u ps tb = record {
+  is = λ p sp w m e. u .is p (from p sp) (omega (arith, byte-inside l p 32 sp (omega arith))) sp w m e ∙ sym (tb .is w (word-is l (p + 1) w m e));
 }
 
 -- ---- the search for one word, the newest slot first

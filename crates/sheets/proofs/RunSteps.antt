@@ -34,7 +34,7 @@ use Rattle.sheets.proofs.LineText.{line-laid}
 use Rattle.sheets.specs.Operands.{Ready}
 use Rattle.sheets.specs.Running.{orFound, slotFound, readingFound, Tabled, NextLine, letEffect, showEffect, EffectOf, EffectWith, Runs}
 use Rattle.sheets.specs.declared.effects.Effect.{Effect}
-use Rattle.sheets.proofs.LinePlaces.{let-places}
+use Rattle.sheets.proofs.LinePlaces.{let-places, space-late}
 use Rattle.sheets.proofs.OperandLaws.{Upto, upto-ready}
 use Rattle.sheets.proofs.KnownLaws.{tabled-let}
 
@@ -168,7 +168,7 @@ module _ (s : List ℕ) (e : Ellipsoid) (rs : List Float) (d : List ℕ) (at num
         let it : to ≡ sp .next = ht .is (sp .line) (sp .next) (sp .stands) in
         let a = line-alone s at (sp .line) (sp .next) (sp .stands) in
         let b = subst (λ y. readLine (part s at y) 0 ≡ got (sp .line) (sp .next - at)) (sym it) a in
-        (sp, sp .next - at, b, sym it, subst (λ y. EffectOf (part s at to) (sp .line) y (st .known) x) (sym ee) (hx .is (st .known) (upto-ready (part s at to) ks fs t n rs m hm u (st .known) tb) (sp .line) (sp .next - at) b))
+        (sp, sp .next - at, b, sym it, subst (λ y. EffectOf (part s at to) (sp .line) y (st .known) x) (sym ee) (hx .is (st .known) (upto-ready (part s at to) ks fs t n rs m hm (space-late (part s at to) (sp .line) (sp .next - at) b) u (st .known) tb) (sp .line) (sp .next - at) b))
 
     pub runs-stops : (k : ℕ) → x ≡ Effect.Stops k → (r : RunAnswer) → r ≡ record { number = k; line = number; written = written } → Runs s e rs d at number t n written out r out
     unfolding steps

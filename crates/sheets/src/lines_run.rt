@@ -103,7 +103,8 @@ pub fn run_lines(
         }
         let to = next_line(s, at);
         let l = &s[at..to];
-        let mut p: usize = 0;
+        // the first space of `(let ` stands at 4, that of `(show ` at 5
+        let mut p: usize = 4;
         while p < l.len() {
             let w = word_slot(l, p);
             let WordRead::Is(code, _) = w else {

@@ -20,7 +20,7 @@ abbrev μ-loop3 : tie.MeasureT-loop3
 μ-loop3 s start e readings out t newest kinds rows at number n written to l p code found₀ j₀ found j = j
 
 abbrev Inv-loop2 : tie.InvT-loop2
-Inv-loop2 s start e readings out t newest kinds₀ rows₀ at number n written to l p₀ kinds rows p = (p ≤ length l) × (length l ≤ 200) × Upto l kinds rows (λ c. orFound (slotFound n t c) (readingFound c readings)) p
+Inv-loop2 s start e readings out t newest kinds₀ rows₀ at number n written to l p₀ kinds rows p = (length l ≤ 200) × Upto l kinds rows (λ c. orFound (slotFound n t c) (readingFound c readings)) p
 
 abbrev μ-loop2 : tie.MeasureT-loop2
 μ-loop2 s start e readings out t newest kinds₀ rows₀ at number n written to l p₀ kinds rows p = length l - p
@@ -59,7 +59,7 @@ part-l-end : tie.Need-part-l-end Inv-loop3 μ-loop3 Inv-loop2 μ-loop2 Inv-loop 
 part-l-end c = omega (arith, c .next-line .ensures .low, c .next-line .ensures .high (omega arith))
 
 loop2-holds : tie.Need-loop2-holds Inv-loop3 μ-loop3 Inv-loop2 μ-loop2 Inv-loop μ-loop
-loop2-holds c = (omega arith, part-short _ _ _ (c .before .next-line .ensures), upto-none _ _ _ _ (c .before .before .before .before .loop .inv .0) (c .before .before .before .before .loop .inv .1))
+loop2-holds c = (part-short _ _ _ (c .before .next-line .ensures), upto-none _ _ _ _ (c .before .before .before .before .loop .inv .0) (c .before .before .before .before .loop .inv .1))
 
 word-slot-requires : tie.Need-word-slot-requires Inv-loop3 μ-loop3 Inv-loop2 μ-loop2 Inv-loop μ-loop
 word-slot-requires c κs = search needs
@@ -77,7 +77,7 @@ loop2-less : tie.Need-loop2-less Inv-loop3 μ-loop3 Inv-loop2 μ-loop2 Inv-loop 
 loop2-less c = omega arith
 
 loop2-again : tie.Need-loop2-again Inv-loop3 μ-loop3 Inv-loop2 μ-loop2 Inv-loop μ-loop
-loop2-again c = (omega arith, c .before .before .before .before .loop2 .inv .1, upto-skip _ _ _ _ _ (c .before .before .before .before .loop2 .inv .2) _ (c .before .before .word-slot .ensures) (c .enum-told .given .1))
+loop2-again c = (c .before .before .before .before .loop2 .inv .0, upto-skip _ _ _ _ _ (c .before .before .before .before .loop2 .inv .1) _ (c .before .before .word-slot .ensures) (c .enum-told .given .1))
 
 newest-of-requires : tie.Need-newest-of-requires Inv-loop3 μ-loop3 Inv-loop2 μ-loop2 Inv-loop μ-loop
 newest-of-requires c κs = search needs
@@ -116,7 +116,7 @@ add-put-found : tie.Need-add-put-found Inv-loop3 μ-loop3 Inv-loop2 μ-loop2 Inv
 add-put-found c = omega arith
 
 put-found-requires : tie.Need-put-found-requires Inv-loop3 μ-loop3 Inv-loop2 μ-loop2 Inv-loop μ-loop
-put-found-requires c κs = omega (arith, c .before .before .before .before .before .before .before .before .before .before .before .before .loop2 .inv .1)
+put-found-requires c κs = omega (arith, c .before .before .before .before .before .before .before .before .before .before .before .before .loop2 .inv .0)
 
 add-p-2 : tie.Need-add-p-2 Inv-loop3 μ-loop3 Inv-loop2 μ-loop2 Inv-loop μ-loop
 add-p-2 c = omega arith
@@ -125,7 +125,7 @@ loop2-less-2 : tie.Need-loop2-less-2 Inv-loop3 μ-loop3 Inv-loop2 μ-loop2 Inv-l
 loop2-less-2 c = omega arith
 
 loop2-again-2 : tie.Need-loop2-again-2 Inv-loop3 μ-loop3 Inv-loop2 μ-loop2 Inv-loop μ-loop
-loop2-again-2 c = (omega arith, c .before .before .before .before .before .before .before .before .before .before .before .before .before .loop2 .inv .1, upto-put _ _ _ _ _ (c .before .before .before .before .before .before .before .before .before .before .before .before .before .loop2 .inv .2) (omega (arith, c .before .before .before .before .before .before .before .before .before .before .before .before .before .loop2 .inv .1)) _ (c .before .before .before .before .before .before .before .before .before .before .before .word-slot .ensures) _ _ (c .before .before .before .before .before .before .before .before .before .w .given .1) _ (known-is _ _ _ _ _ (c .before .before .before .before .loop3-test .left) (c .before .before .before .before .before .loop3 .inv) _ _ (c .before .before .before .or-reading .ensures)) _ (c .put-found .ensures .0) _ (c .put-found .ensures .1))
+loop2-again-2 c = (c .before .before .before .before .before .before .before .before .before .before .before .before .before .loop2 .inv .0, upto-put _ _ _ _ _ (c .before .before .before .before .before .before .before .before .before .before .before .before .before .loop2 .inv .1) (omega (arith, c .before .before .before .before .before .before .before .before .before .before .before .before .before .loop2 .inv .0)) _ (c .before .before .before .before .before .before .before .before .before .before .before .word-slot .ensures) _ _ (c .before .before .before .before .before .before .before .before .before .w .given .1) _ (known-is _ _ _ _ _ (c .before .before .before .before .loop3-test .left) (c .before .before .before .before .before .loop3 .inv) _ _ (c .before .before .before .or-reading .ensures)) _ (c .put-found .ensures .0) _ (c .put-found .ensures .1))
 
 line-effect-requires : tie.Need-line-effect-requires Inv-loop3 μ-loop3 Inv-loop2 μ-loop2 Inv-loop μ-loop
 line-effect-requires c κs = search needs
@@ -140,7 +140,7 @@ same-length-2 : tie.Need-same-length-2 Inv-loop3 μ-loop3 Inv-loop2 μ-loop2 Inv
 same-length-2 c = c .before .before .before .before .before .before .before .before .before .before .before .before .loop .inv .5
 
 returns-2 : tie.Need-returns-2 Inv-loop3 μ-loop3 Inv-loop2 μ-loop2 Inv-loop μ-loop
-returns-2 c = c .before .before .before .before .before .before .before .before .before .before .before .before .loop .inv .6 _ _ (runs-sticks _ _ _ _ _ _ _ _ _ _ (omega (arith, c .before .before .before .before .before .before .before .before .before .before .before .before .loop .inv .3)) (c .before .before .before .before .before .before .before .before .before .before .before .loop-test .taken) (c .before .before .before .before .before .before .before .before .before .before .if1 .left) _ (c .before .before .before .before .before .before .before .before .before .next-line .ensures) _ _ _ (c .before .before .before .before .before .before .loop2-test .left) (c .before .before .before .before .before .before .before .loop2 .inv .2) _ (c .before .before .before .line-effect .ensures) (c .before .enum-told2 .given .1) _)
+returns-2 c = c .before .before .before .before .before .before .before .before .before .before .before .before .loop .inv .6 _ _ (runs-sticks _ _ _ _ _ _ _ _ _ _ (omega (arith, c .before .before .before .before .before .before .before .before .before .before .before .before .loop .inv .3)) (c .before .before .before .before .before .before .before .before .before .before .before .loop-test .taken) (c .before .before .before .before .before .before .before .before .before .before .if1 .left) _ (c .before .before .before .before .before .before .before .before .before .next-line .ensures) _ _ _ (c .before .before .before .before .before .before .loop2-test .left) (c .before .before .before .before .before .before .before .loop2 .inv .1) _ (c .before .before .before .line-effect .ensures) (c .before .enum-told2 .given .1) _)
 
 enum-known-r : tie.Need-enum-known-r Inv-loop3 μ-loop3 Inv-loop2 μ-loop2 Inv-loop μ-loop
 enum-known-r c = search needs
@@ -152,7 +152,7 @@ same-length-3 : tie.Need-same-length-3 Inv-loop3 μ-loop3 Inv-loop2 μ-loop2 Inv
 same-length-3 c = c .before .before .before .before .before .before .before .before .before .before .before .before .before .loop .inv .5
 
 returns-3 : tie.Need-returns-3 Inv-loop3 μ-loop3 Inv-loop2 μ-loop2 Inv-loop μ-loop
-returns-3 c = c .before .before .before .before .before .before .before .before .before .before .before .before .before .loop .inv .6 _ _ (runs-stops _ _ _ _ _ _ _ _ _ _ (omega (arith, c .before .before .before .before .before .before .before .before .before .before .before .before .before .loop .inv .3)) (c .before .before .before .before .before .before .before .before .before .before .before .before .loop-test .taken) (c .before .before .before .before .before .before .before .before .before .before .before .if1 .left) _ (c .before .before .before .before .before .before .before .before .before .before .next-line .ensures) _ _ _ (c .before .before .before .before .before .before .before .loop2-test .left) (c .before .before .before .before .before .before .before .before .loop2 .inv .2) _ (c .before .before .before .before .line-effect .ensures) _ (c .before .before .r .given .1) _ (c .run-answer3 .ensures))
+returns-3 c = c .before .before .before .before .before .before .before .before .before .before .before .before .before .loop .inv .6 _ _ (runs-stops _ _ _ _ _ _ _ _ _ _ (omega (arith, c .before .before .before .before .before .before .before .before .before .before .before .before .before .loop .inv .3)) (c .before .before .before .before .before .before .before .before .before .before .before .before .loop-test .taken) (c .before .before .before .before .before .before .before .before .before .before .before .if1 .left) _ (c .before .before .before .before .before .before .before .before .before .before .next-line .ensures) _ _ _ (c .before .before .before .before .before .before .before .loop2-test .left) (c .before .before .before .before .before .before .before .before .loop2 .inv .1) _ (c .before .before .before .before .line-effect .ensures) _ (c .before .before .r .given .1) _ (c .run-answer3 .ensures))
 
 enum-known-r-2 : tie.Need-enum-known-r-2 Inv-loop3 μ-loop3 Inv-loop2 μ-loop2 Inv-loop μ-loop
 enum-known-r-2 c = search needs
@@ -179,7 +179,7 @@ loop-less : tie.Need-loop-less Inv-loop3 μ-loop3 Inv-loop2 μ-loop2 Inv-loop μ
 loop-less c = omega arith
 
 loop-again : tie.Need-loop-again Inv-loop3 μ-loop3 Inv-loop2 μ-loop2 Inv-loop μ-loop
-loop-again c = (c .before .before .before .before .before .before .before .before .before .loop2 .inv .2 .kinds, c .before .before .before .before .before .before .before .before .before .loop2 .inv .2 .rows, simp length-set (c .before .before .before .before .before .before .before .before .before .before .before .before .before .before .loop .inv .2), omega (arith, c .before .before .before .before .before .before .before .before .before .before .before .before .before .before .loop .inv .3), omega arith, c .before .before .before .before .before .before .before .before .before .before .before .before .before .before .loop .inv .5, λ q o h. c .before .before .before .before .before .before .before .before .before .before .before .before .before .before .loop .inv .6 q o (runs-gives _ _ _ _ _ _ _ _ _ _ (omega (arith, c .before .before .before .before .before .before .before .before .before .before .before .before .before .before .loop .inv .3)) (c .before .before .before .before .before .before .before .before .before .before .before .before .before .loop-test .taken) (c .before .before .before .before .before .before .before .before .before .before .before .before .if1 .left) _ (c .before .before .before .before .before .before .before .before .before .before .before .next-line .ensures) _ _ _ (c .before .before .before .before .before .before .before .before .loop2-test .left) (c .before .before .before .before .before .before .before .before .before .loop2 .inv .2) _ (c .before .before .before .before .before .line-effect .ensures) _ _ (c .before .before .before .r2 .given .1) (omega (arith, c .before .before .before .before .before .before .before .before .before .before .before .before .before .before .loop .inv .2, c .before .before .before .before .before .before .before .before .before .before .before .before .before .before .loop .inv .3, c .before .before .before .before .before .before .before .before .before .before .before .before .before .loop-test .taken)) _ refl q o h), newest-again _ _ _ (c .before .before .before .before .before .before .before .before .before .before .before .before .before .before .loop .inv .7) (omega (arith, c .before .before .before .before .before .before .before .before .before .before .before .before .before .before .loop .inv .2, c .before .before .before .before .before .before .before .before .before .before .before .before .before .before .loop .inv .3, c .before .before .before .before .before .before .before .before .before .before .before .before .before .loop-test .taken)) _ _ refl _ (c .put-newest .ensures))
+loop-again c = (c .before .before .before .before .before .before .before .before .before .loop2 .inv .1 .kinds, c .before .before .before .before .before .before .before .before .before .loop2 .inv .1 .rows, simp length-set (c .before .before .before .before .before .before .before .before .before .before .before .before .before .before .loop .inv .2), omega (arith, c .before .before .before .before .before .before .before .before .before .before .before .before .before .before .loop .inv .3), omega arith, c .before .before .before .before .before .before .before .before .before .before .before .before .before .before .loop .inv .5, λ q o h. c .before .before .before .before .before .before .before .before .before .before .before .before .before .before .loop .inv .6 q o (runs-gives _ _ _ _ _ _ _ _ _ _ (omega (arith, c .before .before .before .before .before .before .before .before .before .before .before .before .before .before .loop .inv .3)) (c .before .before .before .before .before .before .before .before .before .before .before .before .before .loop-test .taken) (c .before .before .before .before .before .before .before .before .before .before .before .before .if1 .left) _ (c .before .before .before .before .before .before .before .before .before .before .before .next-line .ensures) _ _ _ (c .before .before .before .before .before .before .before .before .loop2-test .left) (c .before .before .before .before .before .before .before .before .before .loop2 .inv .1) _ (c .before .before .before .before .before .line-effect .ensures) _ _ (c .before .before .before .r2 .given .1) (omega (arith, c .before .before .before .before .before .before .before .before .before .before .before .before .before .before .loop .inv .2, c .before .before .before .before .before .before .before .before .before .before .before .before .before .before .loop .inv .3, c .before .before .before .before .before .before .before .before .before .before .before .before .before .loop-test .taken)) _ refl q o h), newest-again _ _ _ (c .before .before .before .before .before .before .before .before .before .before .before .before .before .before .loop .inv .7) (omega (arith, c .before .before .before .before .before .before .before .before .before .before .before .before .before .before .loop .inv .2, c .before .before .before .before .before .before .before .before .before .before .before .before .before .before .loop .inv .3, c .before .before .before .before .before .before .before .before .before .before .before .before .before .loop-test .taken)) _ _ refl _ (c .put-newest .ensures))
 
 enum-known-r-3 : tie.Need-enum-known-r-3 Inv-loop3 μ-loop3 Inv-loop2 μ-loop2 Inv-loop μ-loop
 enum-known-r-3 c = search needs
@@ -194,7 +194,7 @@ loop-less-2 : tie.Need-loop-less-2 Inv-loop3 μ-loop3 Inv-loop2 μ-loop2 Inv-loo
 loop-less-2 c = omega arith
 
 loop-again-2 : tie.Need-loop-again-2 Inv-loop3 μ-loop3 Inv-loop2 μ-loop2 Inv-loop μ-loop
-loop-again-2 c = (c .before .before .before .before .before .before .before .before .before .before .before .loop2 .inv .2 .kinds, c .before .before .before .before .before .before .before .before .before .before .before .loop2 .inv .2 .rows, c .before .before .before .before .before .before .before .before .before .before .before .before .before .before .before .before .loop .inv .2, omega (arith, c .before .before .before .before .before .before .before .before .before .before .before .before .before .before .before .before .loop .inv .3), omega arith, c .before .before .output-line .kept .1 .1 .1 .1 .0 ∙ c .before .before .before .before .before .before .before .before .before .before .before .before .before .before .before .before .loop .inv .5, λ q o h. c .before .before .before .before .before .before .before .before .before .before .before .before .before .before .before .before .loop .inv .6 q o (runs-shows _ _ _ _ _ _ _ _ _ _ (omega (arith, c .before .before .before .before .before .before .before .before .before .before .before .before .before .before .before .before .loop .inv .3)) (c .before .before .before .before .before .before .before .before .before .before .before .before .before .before .before .loop-test .taken) (c .before .before .before .before .before .before .before .before .before .before .before .before .before .before .if1 .left) _ (c .before .before .before .before .before .before .before .before .before .before .before .before .before .next-line .ensures) _ _ _ (c .before .before .before .before .before .before .before .before .before .before .loop2-test .left) (c .before .before .before .before .before .before .before .before .before .before .before .loop2 .inv .2) _ (c .before .before .before .before .before .before .before .line-effect .ensures) _ _ (c .before .before .before .before .before .r3 .given .1) _ _ (c .before .before .output-line .ensures) q o h), c .before .before .before .before .before .before .before .before .before .before .before .before .before .before .before .before .loop .inv .7)
+loop-again-2 c = (c .before .before .before .before .before .before .before .before .before .before .before .loop2 .inv .1 .kinds, c .before .before .before .before .before .before .before .before .before .before .before .loop2 .inv .1 .rows, c .before .before .before .before .before .before .before .before .before .before .before .before .before .before .before .before .loop .inv .2, omega (arith, c .before .before .before .before .before .before .before .before .before .before .before .before .before .before .before .before .loop .inv .3), omega arith, c .before .before .output-line .kept .1 .1 .1 .1 .0 ∙ c .before .before .before .before .before .before .before .before .before .before .before .before .before .before .before .before .loop .inv .5, λ q o h. c .before .before .before .before .before .before .before .before .before .before .before .before .before .before .before .before .loop .inv .6 q o (runs-shows _ _ _ _ _ _ _ _ _ _ (omega (arith, c .before .before .before .before .before .before .before .before .before .before .before .before .before .before .before .before .loop .inv .3)) (c .before .before .before .before .before .before .before .before .before .before .before .before .before .before .before .loop-test .taken) (c .before .before .before .before .before .before .before .before .before .before .before .before .before .before .if1 .left) _ (c .before .before .before .before .before .before .before .before .before .before .before .before .before .next-line .ensures) _ _ _ (c .before .before .before .before .before .before .before .before .before .before .loop2-test .left) (c .before .before .before .before .before .before .before .before .before .before .before .loop2 .inv .1) _ (c .before .before .before .before .before .before .before .line-effect .ensures) _ _ (c .before .before .before .before .before .r3 .given .1) _ _ (c .before .before .output-line .ensures) q o h), c .before .before .before .before .before .before .before .before .before .before .before .before .before .before .before .before .loop .inv .7)
 
 run-answer-requires-4 : tie.Need-run-answer-requires-4 Inv-loop3 μ-loop3 Inv-loop2 μ-loop2 Inv-loop μ-loop
 run-answer-requires-4 c κs = search needs
