@@ -14,9 +14,9 @@ use Rattle.sheets.specs.Text.{_⌢_, lf}
 use Rattle.sheets.specs.Trees.{Num}
 use Rattle.sheets.specs.Grammar.{Each, sign, point, printNum, IsNum}
 use Rattle.sheets.specs.Limits.{numValue}
-use Rattle.sheets.specs.Codes.{wordChar, digit}
-use Rattle.sheets.specs.Reader.{Got, none, got, readNum}
-use Rattle.sheets.specs.Views.{doubled}
+use Rattle.sheets.specs.code.Codes.{wordChar, digit}
+use Rattle.sheets.specs.code.Reader.{Got, none, got, readNum}
+use Rattle.sheets.specs.code.Views.{doubled}
 use Rattle.sheets.specs.declared.num.DoubleRead.{DoubleRead}
 use Rattle.sheets.specs.declared.num.DoubleRead.the-variants.{Is, Not}
 use Rattle.sheets.proofs.Spans.{Spans, spans-append, spans-split, spans-end, spans-drop, drop-spans, holds-at}
@@ -25,7 +25,7 @@ use Rattle.sheets.proofs.TokenLaws.{Stops, NumAt, num-sound, num-complete}
 use Rattle.boresheet.specs.declared.readings.Found.{Found}
 use Rattle.boresheet.specs.declared.readings.Readings.{Readings}
 use Rattle.boresheet.specs.Format.{hexNumber, HexDigit, hexadecimalFrom, Line, Lines, noReadings, ComesTo, all, short, bad, long}
-use Rattle.boresheet.specs.Readings.{hexIf, hexFrom, hexAt, endIf, endedAt, orElse, readingAt, lastly, lineIf, readingsFrom, readingsOf}
+use Rattle.boresheet.specs.code.Readings.{hexIf, hexFrom, hexAt, endIf, endedAt, orElse, readingAt, lastly, lineIf, readingsFrom, readingsOf}
 
 not-is : {C : Type 0} (x : Float) (n : ℕ) → Not ≡ Is x n → C
 not-is x n e = let z : _≡_ {A = ℕ} 0 1 = cc in absurd (omega arith)

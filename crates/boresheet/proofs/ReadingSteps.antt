@@ -9,13 +9,13 @@ use lib.ListN.{length, getD, take, set}
 use lib.Seq.{length-take-le, take-all, take-suc-set}
 use lib.Ieee.{Float, binary64, ofBits}
 use borrow.Author.Tests.{eq-eqb, ne-eqb, le-leb, lt-leb}
-use Rattle.sheets.specs.Reader.{readNum}
-use Rattle.sheets.specs.Views.{doubled}
+use Rattle.sheets.specs.code.Reader.{readNum}
+use Rattle.sheets.specs.code.Views.{doubled}
 use Rattle.sheets.specs.declared.num.DoubleRead.{DoubleRead}
 use Rattle.boresheet.specs.declared.readings.Found.{Found}
 use Rattle.boresheet.specs.declared.readings.Readings.{Readings}
 use Rattle.boresheet.specs.Format.{hexNumber, noReadings}
-use Rattle.boresheet.specs.Readings.{hexIf, hexFrom, hexAt, endIf, endedAt, orElse, readingAt, lastly, lineIf, readingsFrom}
+use Rattle.boresheet.specs.code.Readings.{hexIf, hexFrom, hexAt, endIf, endedAt, orElse, readingAt, lastly, lineIf, readingsFrom}
 
 -- ---- hexadecimal digits
 

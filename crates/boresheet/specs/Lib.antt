@@ -1,3 +1,3 @@
 pub mod Format
-pub mod Readings
 pub mod Messages
+pub mod code

@@ -5,7 +5,7 @@ use sheets::num::DoubleRead;
 ghost use mathlib.Core.Path.{_≡_};
 ghost use Prim.Native.Nat.{_+_, _≤_};
 ghost use Rattle.boresheet.specs.Format.{hexNumber};
-ghost use Rattle.boresheet.specs.Readings.{hexAt};
+ghost use Rattle.boresheet.specs.code.Readings.{hexAt};
 
 // 0 to 15 for a hexadecimal digit of either case, else 16.
 pub fn hex_digit(b: u8) -> u64

@@ -5,7 +5,7 @@ use sheets::num::DoubleRead;
 use sheets::num::double;
 ghost use mathlib.Core.Path.{_≡_};
 ghost use Rattle.boresheet.specs.Format.{noReadings};
-ghost use Rattle.boresheet.specs.Readings.{endedAt, readingAt, readingsOf};
+ghost use Rattle.boresheet.specs.code.Readings.{endedAt, readingAt, readingsOf};
 
 // What a file comes to: its readings; the first line that is none; how many lines there are where they are too few; or that something stands behind line 16.
 pub enum Found {

@@ -10,7 +10,7 @@ use lib.Ieee.{Float}
 use Rattle.frames.specs.declared.frame.LocalFrame.{LocalFrame}
 use Rattle.sheets.specs.Trees.{Line, Head, Sheet}
 use Rattle.sheets.specs.Grammar.{after}
-use Rattle.sheets.specs.Reader.{Got, none, got, Form, formed, badLine, _thenᶠ_, linesStep, readIn, readLines, sheetStep, readHead, readSheet}
+use Rattle.sheets.specs.code.Reader.{Got, none, got, Form, formed, badLine, _thenᶠ_, linesStep, readIn, readLines, sheetStep, readHead, readSheet}
 use Rattle.sheets.specs.Check.{Checked, fine, bad, Stateᶜ, stepᶜ, Walked, passes, refuses, onwardᶜ, stepsᶜ, startᶜ, walk}
 use Rattle.sheets.specs.Machine.{Out, goes, stops, sticks, State, step, Ran, done, stopped, stuck, afterwards, onward, steps, start, machine}
 use Rattle.sheets.specs.Answers.{sized, ranged, Verdict, admitted, refused, ofWalked, ofRange, ofForm, ofLent, ofSize, verdict, checkOf, lentKinds, checkAnswer, ranAnswer, runOf, lentRun, runAnswer}

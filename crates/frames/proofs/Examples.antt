@@ -13,7 +13,7 @@ use Rattle.frames.specs.Ellipsoids.{wgs84, ellipsoid, geodeticToGeocentr
 use Rattle.frames.specs.Vectors.{localFromMetres, fromAer, elevation, bearing, swap}
 use Rattle.frames.specs.Rotations.{r2zyx}
 use Rattle.frames.specs.Frames.{eastAt, frameOrigin, localVectorTo, destinationPosition, enuFromGeodetic, wanderAzimuthFromGeodetic, lookingAtGeocentric, rotateAroundZ, transform}
-use Rattle.frames.specs.Computed.{computed}
+use Rattle.frames.proofs.Computed.{computed}
 use Rattle.frames.specs.declared.positions.GeocentricPosition.{GeocentricPosition}
 use Rattle.frames.specs.declared.positions.GeodeticPosition.{GeodeticPosition}
 use Rattle.frames.specs.declared.ellipsoid.Ellipsoid.{Ellipsoid}

@@ -3,3 +3,4 @@ pub mod FitLaws
 pub mod FrameLaws
 pub mod RadiusLaws
 pub mod Examples
+pub mod Computed

@@ -8,7 +8,7 @@ use Rattle.numbers.specs.Lengths.{metres}
 use Rattle.numbers.specs.declared.length.Length.{Length}
 use Rattle.frames.specs.Ellipsoids.{wgs84}
 use Rattle.frames.specs.Radii.{geocentricRadius, latitudeRadius, primeVerticalRadius}
-use Rattle.frames.specs.Computed.{computed}
+use Rattle.frames.proofs.Computed.{computed}
 use Rattle.frames.specs.declared.ellipsoid.Ellipsoid.{Ellipsoid}
 
 -- ---- on every ellipsoid, whatever its four numbers are: the parallel at a pole is a point

@@ -5,4 +5,3 @@ pub mod Orientations
 pub mod Vectors
 pub mod Rotations
 pub mod Frames
-pub mod Computed

@@ -11,7 +11,7 @@ use Rattle.numbers.specs.Arctangent.{atan2, asin}
 use Rattle.numbers.specs.Powers.{powfThird, powfThreeHalves}
 use Rattle.numbers.specs.Angles.{angle, normalised}
 use Rattle.numbers.specs.Vec.{raw, vecDiv}
-use Rattle.numbers.specs.Computed.{computed}
+use Rattle.numbers.proofs.Computed.{computed}
 
 abbrev bits : Float → ℕ
 bits x = toBits binary64 x

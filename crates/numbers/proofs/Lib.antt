@@ -19,3 +19,4 @@ pub mod FitLaws
 pub mod AngleLaws
 pub mod VecLaws
 pub mod Examples
+pub mod Computed

@@ -14,7 +14,7 @@ use lib.Ieee.Fits.{down-pos}
 use lib.Ieee.Exact.{HasValue}
 use Rattle.numbers.proofs.RoundLaw.{zero-exp, fit-small, fit-deep, fit-high, place}
 use Rattle.numbers.specs.Root.{isqrt}
-use Rattle.numbers.specs.RootSteps.{Squared, Lifted}
+use Rattle.numbers.specs.code.RootSteps.{Squared, Lifted}
 use Rattle.numbers.proofs.Isqrt.{isqrt-is, root-lt, below-or-not, four}
 
 -- the size of a finite value in units of the smallest value, 2 ^ -1074

@@ -12,7 +12,7 @@ use lib.Ieee.Fits.{down-pos, and-l, and-r}
 use lib.Ieee.Exact.{HasValue, units-val}
 use lib.Ieee.Nearest.{closest}
 use Rattle.numbers.specs.Root.{sqrt, isqrt, halves}
-use Rattle.numbers.specs.RootSteps.{Squared, Lifted}
+use Rattle.numbers.specs.code.RootSteps.{Squared, Lifted}
 use Rattle.numbers.proofs.Isqrt.{below-or-not}
 use Rattle.numbers.proofs.Halves.{Placed, placed}
 use Rattle.numbers.proofs.Rounded.{closest-down, closest-up, round-at, sqrt-at, squares, at-least}

@@ -15,7 +15,7 @@ use lib.Ieee.Exact.{HasValue, units-val, odd-sign}
 use lib.Ieee.Nearest.{closest, closest-same, div-same}
 use lib.Ieee.Bits.{ofBits-toBits, is-false, cond-no}
 use Rattle.numbers.specs.Root.{sqrt, halves}
-use Rattle.numbers.specs.RootSteps.{unitsOf, unitsAt, Squared, Rounds, Lifted, RootOf}
+use Rattle.numbers.specs.code.RootSteps.{unitsOf, unitsAt, Squared, Rounds, Lifted, RootOf}
 use Rattle.numbers.proofs.Isqrt.{below-or-not, four}
 use Rattle.numbers.proofs.Halves.{Placed, placed}
 

@@ -1,6 +1,5 @@
 pub mod Ops
 pub mod Root
-pub mod RootSteps
 pub mod Sine
 pub mod Arctangent
 pub mod Powers
@@ -9,4 +8,4 @@ pub mod Angles
 pub mod Lengths
 pub mod Vec
 pub mod Mat
-pub mod Computed
+pub mod code

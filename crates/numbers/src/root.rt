@@ -5,7 +5,7 @@ ghost use mathlib.Core.Bool.{true};
 ghost use Prim.Native.Nat.{_+_, _*_, _<_, _≤_, _^_};
 ghost use lib.Ieee.{binary64, ofBits};
 ghost use Rattle.numbers.specs.Root as Root;
-ghost use Rattle.numbers.specs.RootSteps.{Squared, Rounds, Lifted, unitsOf, RootOf};
+ghost use Rattle.numbers.specs.code.RootSteps.{Squared, Rounds, Lifted, unitsOf, RootOf};
 
 // A pattern's exponent counts in steps of 2^52.
 const TWO_52: u64 = 0x10_0000_0000_0000;

@@ -10,10 +10,10 @@ use lib.Seq.{take-suc-set, length-take-le}
 use Rattle.frames.specs.declared.ellipsoid.Ellipsoid.{Ellipsoid}
 use Rattle.sheets.specs.Trees.{Line, let-line, show-line, Sheet}
 use Rattle.sheets.specs.Grammar.{IsLine, after}
-use Rattle.sheets.specs.Codes.{codeOf}
-use Rattle.sheets.specs.Reader.{readLine, readHead, Form, formed, badLine, readLines, readSheet}
-use Rattle.sheets.specs.Views.{formOf}
-use Rattle.sheets.specs.FirstLines.{firstIn, firstOf}
+use Rattle.sheets.specs.code.Codes.{codeOf}
+use Rattle.sheets.specs.code.Reader.{readLine, readHead, Form, formed, badLine, readLines, readSheet}
+use Rattle.sheets.specs.code.Views.{formOf}
+use Rattle.sheets.specs.code.FirstLines.{firstIn, firstOf}
 use Rattle.sheets.specs.Kinds.{Kind, kindCode}
 use Rattle.sheets.specs.Names.{lookup, barred}
 use Rattle.sheets.specs.Refusals.{Fault, name, fault, refusalNumber}
@@ -24,7 +24,7 @@ use Rattle.sheets.specs.declared.first_line.FirstLine.{FirstLine}
 use Rattle.sheets.proofs.Spans.{holds-at}
 use Rattle.sheets.proofs.LineLaws.{LineStands, line-sound}
 use Rattle.sheets.proofs.Walks.{Step, walk-start, walk-end, walk-line}
-use Rattle.sheets.specs.Walking.{kindFrom, Stands, lineWord, unbarred, lineKind, lineSaid, LineHas, Walks, LinesWalk, Admits}
+use Rattle.sheets.specs.code.Walking.{kindFrom, Stands, lineWord, unbarred, lineKind, lineSaid, LineHas, Walks, LinesWalk, Admits}
 use Rattle.sheets.specs.declared.admit.LineKind.{LineKind}
 use Rattle.sheets.specs.declared.admit.Outcome.{Outcome}
 use Rattle.sheets.specs.declared.admit.Admission.{Admission}

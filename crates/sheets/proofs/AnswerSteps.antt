@@ -14,17 +14,17 @@ use Rattle.sheets.specs.declared.admit.Admission.{Admission}
 use Rattle.sheets.specs.declared.admit.Outcome.{Outcome}
 use Rattle.sheets.specs.declared.first_line.FirstLine.{FirstLine}
 use Rattle.sheets.specs.Trees.{Head, Sheet}
-use Rattle.sheets.specs.Slots.{noNames}
-use Rattle.sheets.specs.Reader.{Got, none, got, Form, formed, badLine, readHead, readLines, readSheet}
+use Rattle.sheets.specs.code.Slots.{noNames}
+use Rattle.sheets.specs.code.Reader.{Got, none, got, Form, formed, badLine, readHead, readLines, readSheet}
 use Rattle.sheets.specs.Refusals.{Refusal, size, lent, form, ellipsoid, refusalNumber}
-use Rattle.sheets.specs.FirstLines.{firstOf, firstIn}
-use Rattle.sheets.specs.Walking.{Admits, Passing, Refusing}
+use Rattle.sheets.specs.code.FirstLines.{firstOf, firstIn}
+use Rattle.sheets.specs.code.Walking.{Admits, Passing, Refusing}
 use Rattle.sheets.specs.Machine.{start, surface, machine}
 use Rattle.sheets.specs.Check.{Walked, passes, refuses, walk}
 use Rattle.sheets.specs.declared.answers.CheckAnswer.{CheckAnswer}
 use Rattle.sheets.specs.declared.answers.RunAnswer.{RunAnswer}
 use Rattle.sheets.specs.Answers.{sized, ranged, Verdict, admitted, refused, ofWalked, ofRange, ofForm, ofLent, ofSize, verdict, checkOf, laid, kindsOfVerdict, lentKinds, checkAnswer, kindsAfter, ranAnswer, ranText, runOf, textOf, lentRun, runAnswer, outAfter}
-use Rattle.sheets.specs.Writing.{writes, part}
+use Rattle.sheets.specs.code.Writing.{writes, part}
 use Rattle.sheets.proofs.WritingLaws.{name-written, laid-first}
 use Rattle.sheets.proofs.Walks.{walk-start}
 use Rattle.sheets.proofs.Sound.{agree}
@@ -33,7 +33,7 @@ use Rattle.sheets.specs.Claim.{All}
 use Rattle.numbers.proofs.FitLaws.{Fits}
 use Rattle.sheets.specs.Both.{Both}
 use Rattle.sheets.specs.declared.check_and_run.BothAnswers.{BothAnswers}
-use Rattle.sheets.specs.Running.{Runs}
+use Rattle.sheets.specs.code.Running.{Runs}
 use Rattle.sheets.proofs.KnownLaws.{tabled-start}
 
 -- ---- the kind list

@@ -15,7 +15,7 @@ use Rattle.sheets.specs.Table.{on, table}
 use Rattle.sheets.specs.Lookup.{Hit}
 use Rattle.sheets.specs.Refusals.{centre}
 use Rattle.sheets.specs.Machine.{Out, stops, sticks, result, provided, applyRow}
-use Rattle.sheets.specs.Applied.{unlessNear, applied, Applies}
+use Rattle.sheets.specs.code.Applied.{unlessNear, applied, Applies}
 use Rattle.sheets.proofs.WordLaws.{no-row}
 
 -- what the machine's step comes to by the answer

@@ -15,21 +15,21 @@ use Rattle.sheets.specs.declared.expr.Read.{Read}
 use Rattle.sheets.specs.Text.{Word}
 use Rattle.sheets.specs.Trees.{Exprs, nil}
 use Rattle.sheets.specs.Grammar.{IsWord}
-use Rattle.sheets.specs.Codes.{codeOf}
+use Rattle.sheets.specs.code.Codes.{codeOf}
 use Rattle.sheets.specs.Limits.{inLimit}
 use Rattle.sheets.specs.Names.{Known}
 use Rattle.sheets.specs.Table.{table}
 use Rattle.sheets.specs.Lookup.{find}
 use Rattle.sheets.specs.Refusals.{stop, refusalNumber}
-use Rattle.sheets.specs.Reader.{got, readWord, readArgs, readExpr}
-use Rattle.sheets.specs.Views.{place, coded}
-use Rattle.sheets.specs.Applied.{Applies}
+use Rattle.sheets.specs.code.Reader.{got, readWord, readArgs, readExpr}
+use Rattle.sheets.specs.code.Views.{place, coded}
+use Rattle.sheets.specs.code.Applied.{Applies}
 use Rattle.sheets.specs.Machine.{Out, goes, stops, sticks, after, then as thenᵒ, test, met, made, applyRow, eval, evals}
 use Rattle.sheets.proofs.ReaderLaws.{close-read}
 use Rattle.sheets.proofs.ExprSteps.{not-close, args-none, args-other}
 use Rattle.sheets.proofs.Inverse.{not-read, arg-read, form-read}
 use Rattle.sheets.proofs.AppliedLaws.{outOf, apply-row}
-use Rattle.sheets.specs.Evaluating.{evaluated, Evals, EvalsWith, RowHas, Bracket, BracketWith}
+use Rattle.sheets.specs.code.Evaluating.{evaluated, Evals, EvalsWith, RowHas, Bracket, BracketWith}
 use Rattle.sheets.specs.declared.eval.Evaluated.{Evaluated}
 
 after-same : (fs : List LocalFrame) (o : Out Value) (n : ℕ) → evaluated (after fs o) n ≡ evaluated o n

@@ -18,7 +18,7 @@ use Rattle.frames.proofs.FrameLaws.{Sound, FiniteFrame, Home, home}
 use Rattle.sheets.specs.declared.value.Value.{Value}
 use Rattle.sheets.specs.Trees.{Sheet}
 use Rattle.sheets.specs.Grammar.{Written}
-use Rattle.sheets.specs.Reader.{Form, formed, badLine, readSheet}
+use Rattle.sheets.specs.code.Reader.{Form, formed, badLine, readSheet}
 use Rattle.sheets.specs.Kinds.{Kind, kindOf, kindCode}
 use Rattle.sheets.specs.Refusals.{Fault, name, kind, Stop, limit, centre, Refusal, size, lent, form, ellipsoid, fault, stop, refusalNumber}
 use Rattle.sheets.specs.Machine.{Given, State, Ran, done, stopped, stuck, machine}

@@ -8,9 +8,9 @@ use lib.ListN.{length}
 use lib.Ieee.{Float}
 use Rattle.numbers.specs.Floats.{nearest}
 use Rattle.sheets.specs.Trees.{Num, numDigits}
-use Rattle.sheets.specs.Reader.{readNum}
+use Rattle.sheets.specs.code.Reader.{readNum}
 use Rattle.sheets.specs.Limits.{numValue}
-use Rattle.sheets.specs.Views.{counted, numeralOf, doubled}
+use Rattle.sheets.specs.code.Views.{counted, numeralOf, doubled}
 use Rattle.sheets.specs.declared.num.Numeral.{Numeral}
 use Rattle.sheets.specs.declared.num.NumRead.{NumRead}
 use Rattle.sheets.specs.declared.num.DoubleRead.{DoubleRead}

@@ -15,18 +15,18 @@ use Rattle.sheets.specs.declared.value.Value.{Value}
 use Rattle.sheets.specs.declared.bytes.WordRead.{WordRead}
 use Rattle.sheets.specs.Text.{Word}
 use Rattle.sheets.specs.Trees.{Expr, Line, let-line, show-line}
-use Rattle.sheets.specs.Codes.{codeOf}
+use Rattle.sheets.specs.code.Codes.{codeOf}
 use Rattle.sheets.specs.Limits.{inLimit}
 use Rattle.sheets.specs.Names.{Known, lookup}
 use Rattle.sheets.specs.Refusals.{stop, refusalNumber}
-use Rattle.sheets.specs.Reader.{Got, none as noGot, got, readWord, readExpr, readLine}
-use Rattle.sheets.specs.Views.{coded}
+use Rattle.sheets.specs.code.Reader.{Got, none as noGot, got, readWord, readExpr, readLine}
+use Rattle.sheets.specs.code.Views.{coded}
 use Rattle.sheets.specs.Machine.{Out, goes, stops, sticks, meet, met, test, eval}
 use Rattle.sheets.proofs.Viewed.{coded-none, coded-got}
 use Rattle.sheets.proofs.Slices.{word-part}
-use Rattle.sheets.specs.Operands.{operand, foundOf, Ready}
-use Rattle.sheets.specs.Evaluating.{evaluated, EvalsWith}
-use Rattle.sheets.specs.Running.{NextLine, letEffect, showEffect, EffectOf, LetWith, ShowWith, EffectWith}
+use Rattle.sheets.specs.code.Operands.{operand, foundOf, Ready}
+use Rattle.sheets.specs.code.Evaluating.{evaluated, EvalsWith}
+use Rattle.sheets.specs.code.Running.{NextLine, letEffect, showEffect, EffectOf, LetWith, ShowWith, EffectWith}
 use Rattle.sheets.specs.declared.operands.Found.{Found}
 use Rattle.sheets.specs.declared.eval.Evaluated.{Evaluated}
 use Rattle.sheets.specs.declared.effects.Effect.{Effect}

@@ -18,14 +18,14 @@ use Rattle.sheets.specs.Text.{Word}
 use Rattle.sheets.specs.Trees.{word-expr, num-expr}
 use Rattle.sheets.specs.Limits.{inLimit}
 use Rattle.sheets.specs.Names.{Known, lookup}
-use Rattle.sheets.specs.Reader.{none as noGot, got, _then_, readWord, readNum, orNum, readLeaf, readExpr}
-use Rattle.sheets.specs.Views.{place, coded, doubled}
+use Rattle.sheets.specs.code.Reader.{none as noGot, got, _then_, readWord, readNum, orNum, readLeaf, readExpr}
+use Rattle.sheets.specs.code.Views.{place, coded, doubled}
 use Rattle.sheets.specs.Machine.{test, met, meet, eval}
 use Rattle.sheets.proofs.ReaderLaws.{expr-leaf}
 use Rattle.sheets.proofs.Viewed.{coded-none, coded-got, doubled-none, doubled-got}
 use Rattle.sheets.proofs.Inverse.{not-read}
-use Rattle.sheets.specs.Operands.{operand, foundOf}
-use Rattle.sheets.specs.Evaluating.{evaluated, EvalsWith, LeafWith}
+use Rattle.sheets.specs.code.Operands.{operand, foundOf}
+use Rattle.sheets.specs.code.Evaluating.{evaluated, EvalsWith, LeafWith}
 use Rattle.sheets.specs.declared.operands.Found.{Found}
 use Rattle.sheets.specs.declared.eval.Evaluated.{Evaluated}
 

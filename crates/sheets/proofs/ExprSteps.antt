@@ -8,10 +8,10 @@ use lib.ListN.{getD}
 use borrow.Author.Tests.{eq-eqb, ne-eqb}
 use Rattle.sheets.specs.Text.{Word}
 use Rattle.sheets.specs.Trees.{Num, Expr, Exprs, word-expr, num-expr, form-expr, _▸_}
-use Rattle.sheets.specs.Codes.{codeOf}
-use Rattle.sheets.specs.Reader.{Got, none, got, _then_, readWord, readNum, argsStep, readArgs, orNum, readLeaf, exprStep, readExpr, nothing}
+use Rattle.sheets.specs.code.Codes.{codeOf}
+use Rattle.sheets.specs.code.Reader.{Got, none, got, _then_, readWord, readNum, argsStep, readArgs, orNum, readLeaf, exprStep, readExpr, nothing}
 use Rattle.sheets.proofs.ReaderLaws.{close-read, expr-leaf}
-use Rattle.sheets.specs.Views.{place, coded, counted, numeralOf}
+use Rattle.sheets.specs.code.Views.{place, coded, counted, numeralOf}
 use Rattle.sheets.specs.declared.bytes.WordRead.{WordRead}
 use Rattle.sheets.specs.declared.num.Numeral.{Numeral}
 use Rattle.sheets.specs.declared.num.NumRead.{NumRead}

@@ -11,7 +11,7 @@ use Rattle.sheets.specs.declared.args.Applied.{Applied}
 use Rattle.sheets.specs.Letters.{Holds, hold, 𝐚, 𝐥}
 use Rattle.sheets.specs.Table.{table}
 use Rattle.sheets.specs.Lookup.{find}
-use Rattle.sheets.specs.Applied.{applied, vectorWord, aerWord}
+use Rattle.sheets.specs.code.Applied.{applied, vectorWord, aerWord}
 
 abbrev pub vectorOf : Orientation → Option (Holds (𝐥 ∷ 𝐥 ∷ 𝐥 ∷ [])) → Applied
 vectorOf o none = Applied.NoRow

@@ -11,16 +11,16 @@ use Rattle.numbers.specs.declared.length.Length.{Length}
 use Rattle.frames.specs.Ellipsoids.{ellipsoid, wgs84 as surfaceWgs84}
 use Rattle.frames.specs.declared.ellipsoid.Ellipsoid.{Ellipsoid}
 use Rattle.sheets.specs.Trees.{Num, custom}
-use Rattle.sheets.specs.Reader.{got, readNum, readHead}
+use Rattle.sheets.specs.code.Reader.{got, readNum, readHead}
 use Rattle.sheets.specs.Limits.{numValue, between}
 use Rattle.sheets.specs.Machine.{surface}
 use Rattle.sheets.specs.Answers.{ranged}
-use Rattle.sheets.specs.Views.{doubled, HeadAnswer}
+use Rattle.sheets.specs.code.Views.{doubled, HeadAnswer}
 use Rattle.sheets.specs.declared.num.DoubleRead.{DoubleRead}
 use Rattle.sheets.specs.declared.head.HeadRead.{HeadRead}
 use Rattle.sheets.proofs.Viewed.{doubled-none, doubled-got}
 use Rattle.sheets.proofs.Told.{told-no-head, told-wgs, told-custom}
-use Rattle.sheets.specs.FirstLines.{firstIn, firstOf, ByNumbers}
+use Rattle.sheets.specs.code.FirstLines.{firstIn, firstOf, ByNumbers}
 use Rattle.sheets.specs.declared.first_line.FirstLine.{FirstLine}
 
 -- ---- the two ranges, one test after the other

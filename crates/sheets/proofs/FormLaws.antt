@@ -6,7 +6,7 @@ use mathlib.Core.Logic.{_⊎_, inl, inr}
 use mathlib.Core.List.{List}
 use Rattle.sheets.specs.Trees.{Sheet}
 use Rattle.sheets.specs.Grammar.{Written, FirstBad, at-head, at-line, at-97}
-use Rattle.sheets.specs.Reader.{Form, formed, badLine, readSheet}
+use Rattle.sheets.specs.code.Reader.{Form, formed, badLine, readSheet}
 use Rattle.sheets.proofs.SheetLaws.{sheet-reads, sheet-breaks}
 
 formed-same : (o : Form Sheet) (c d : Sheet) → o ≡ formed c → o ≡ formed d → c ≡ d

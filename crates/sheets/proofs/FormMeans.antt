@@ -8,8 +8,8 @@ use lib.ListN.{length}
 use Rattle.sheets.specs.Text.{_⌢_, countLF}
 use Rattle.sheets.specs.Trees.{Sheet}
 use Rattle.sheets.specs.Grammar.{Written, FirstBad}
-use Rattle.sheets.specs.Reader.{Form, formed, badLine, readSheet}
-use Rattle.sheets.specs.Views.{formOf}
+use Rattle.sheets.specs.code.Reader.{Form, formed, badLine, readSheet}
+use Rattle.sheets.specs.code.Views.{formOf}
 use Rattle.sheets.specs.declared.form.FormRead.{FormRead}
 use Rattle.sheets.proofs.SheetLaws.{sheet-reads, sheet-breaks}
 use Rattle.sheets.proofs.LineNumbers.{WholeLines, bad-number}

@@ -10,8 +10,8 @@ use borrow.Author.Tests.{le-leb, lt-leb}
 use Rattle.sheets.specs.Text.{countLF}
 use Rattle.sheets.specs.Trees.{Line, let-line, show-line, Head}
 use Rattle.sheets.specs.Grammar.{allowed, after}
-use Rattle.sheets.specs.Reader.{Got, none, got, orElse, readLine, readHead, permitted, Form, formed, badLine, _thenᶠ_, linesStep, readLines, sheetStep, readSheet}
-use Rattle.sheets.specs.Views.{place, formOf}
+use Rattle.sheets.specs.code.Reader.{Got, none, got, orElse, readLine, readHead, permitted, Form, formed, badLine, _thenᶠ_, linesStep, readLines, sheetStep, readSheet}
+use Rattle.sheets.specs.code.Views.{place, formOf}
 use Rattle.sheets.proofs.LineNumbers.{head-step, line-step}
 use Rattle.sheets.proofs.Viewed.{placed-none, placed-got}
 use Rattle.sheets.specs.declared.expr.Read.{Read}

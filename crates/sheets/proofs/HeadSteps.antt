@@ -9,9 +9,9 @@ use lib.ListN.{length}
 use borrow.Author.Tests.{eq-eqb, ne-eqb}
 use Rattle.sheets.specs.Text.{ascii}
 use Rattle.sheets.specs.Trees.{Num, Head, wgs84, custom}
-use Rattle.sheets.specs.Codes.{wordChar, codeFrom, codeOf}
-use Rattle.sheets.specs.Reader.{Got, none, got, readWord, readNum, orElse, nothing, opening, spaced, closing, limit, readCustom, wgsOr, headOf, readHead}
-use Rattle.sheets.specs.Views.{place, coded, counted, closed, HeadAnswer}
+use Rattle.sheets.specs.code.Codes.{wordChar, codeFrom, codeOf}
+use Rattle.sheets.specs.code.Reader.{Got, none, got, readWord, readNum, orElse, nothing, opening, spaced, closing, limit, readCustom, wgsOr, headOf, readHead}
+use Rattle.sheets.specs.code.Views.{place, coded, counted, closed, HeadAnswer}
 use Rattle.sheets.proofs.ReaderLaws.{then-got, limit-is}
 use Rattle.sheets.proofs.Viewed.{placed-none, coded-none, coded-got, counted-none, counted-got}
 use Rattle.sheets.specs.declared.bytes.WordRead.{WordRead}

@@ -8,9 +8,9 @@ use lib.ListN.{getD}
 use Rattle.sheets.specs.Text.{Word}
 use Rattle.sheets.specs.Trees.{Expr, Exprs, form-expr, _▸_}
 use Rattle.sheets.specs.Grammar.{IsWord}
-use Rattle.sheets.specs.Codes.{codeOf}
-use Rattle.sheets.specs.Reader.{Got, none, got, _then_, readWord, readArgs, readExpr}
-use Rattle.sheets.specs.Views.{place, coded}
+use Rattle.sheets.specs.code.Codes.{codeOf}
+use Rattle.sheets.specs.code.Reader.{Got, none, got, _then_, readWord, readArgs, readExpr}
+use Rattle.sheets.specs.code.Views.{place, coded}
 use Rattle.sheets.specs.declared.bytes.WordRead.{WordRead}
 use Rattle.sheets.specs.declared.expr.Read.{Read}
 use Rattle.sheets.proofs.Viewed.{coded-got}

@@ -13,11 +13,11 @@ use types.Run.{OneOf, hit, miss}
 use Rattle.frames.specs.declared.orientation.Orientation.the-variants.{Enu, Ned, Body, Wan}
 use Rattle.sheets.specs.Text.{Word}
 use Rattle.sheets.specs.Grammar.{IsWord}
-use Rattle.sheets.specs.Codes.{codeOf}
+use Rattle.sheets.specs.code.Codes.{codeOf}
 use Rattle.sheets.specs.Kinds.{Kind, number, angle, len, geocentric, geodetic, vector, frame, place, kindCode, sameKind, sameKinds}
 use Rattle.sheets.specs.Table.{Row, when, table}
 use Rattle.sheets.specs.Lookup.{sameWord, opens, KindRow, kindRows, search, findKind}
-use Rattle.sheets.specs.KindCodes.{keyFrom, keyOf, kindOr255, RowKind, Missed, Opens}
+use Rattle.sheets.specs.code.KindCodes.{keyFrom, keyOf, kindOr255, RowKind, Missed, Opens}
 use Rattle.sheets.proofs.CodeLaws.{code-same}
 use Rattle.sheets.proofs.KindExact.{same-word, same-kinds}
 use Rattle.sheets.proofs.WordLaws.{spelt, spelt-is, missed-none}

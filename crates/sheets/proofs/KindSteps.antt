@@ -8,14 +8,14 @@ use lib.ListN.{getD}
 use Rattle.sheets.specs.Text.{Word}
 use Rattle.sheets.specs.Trees.{Expr, Exprs, word-expr, num-expr, nil, _▸_}
 use Rattle.sheets.specs.Grammar.{IsWord, IsExpr}
-use Rattle.sheets.specs.Codes.{codeOf}
-use Rattle.sheets.specs.Reader.{got, readWord, readNum, readArgs, readExpr}
-use Rattle.sheets.specs.Views.{place, coded, counted}
+use Rattle.sheets.specs.code.Codes.{codeOf}
+use Rattle.sheets.specs.code.Reader.{got, readWord, readNum, readArgs, readExpr}
+use Rattle.sheets.specs.code.Views.{place, coded, counted}
 use Rattle.sheets.specs.Kinds.{Kind, kindCode}
 use Rattle.sheets.specs.Table.{table}
 use Rattle.sheets.specs.Lookup.{findKind}
 use Rattle.sheets.specs.Names.{Known, lookup}
-use Rattle.sheets.specs.KindCodes.{keyFrom, kindOr255, RowKind}
+use Rattle.sheets.specs.code.KindCodes.{keyFrom, kindOr255, RowKind}
 use Rattle.sheets.specs.Refusals.{Fault, name, kind, fault, refusalNumber}
 use Rattle.sheets.specs.Check.{Checked, fine, bad, thenᶜ, known?, kindOfExpr, kindsOfExprs}
 use Rattle.sheets.specs.declared.bytes.WordRead.{WordRead}
@@ -29,9 +29,9 @@ use Rattle.sheets.proofs.Inverse.{not-read, arg-read, form-read}
 use Rattle.sheets.proofs.Spans.{holds-at}
 use Rattle.sheets.proofs.ExprLaws.{ExprAt, expr-sound}
 use Rattle.sheets.proofs.KindRowLaws.{kind-small}
-use Rattle.sheets.specs.Newest.{newestOf}
+use Rattle.sheets.specs.code.Newest.{newestOf}
 use Rattle.sheets.proofs.PassedLaws.{kind-newest}
-use Rattle.sheets.specs.Walking.{kindFrom, FoundKind, Standing, kindSaid, ExprHas, keySaid, ArgsHave}
+use Rattle.sheets.specs.code.Walking.{kindFrom, FoundKind, Standing, kindSaid, ExprHas, keySaid, ArgsHave}
 use Rattle.sheets.specs.declared.kind_walk.KindRead.{KindRead}
 use Rattle.sheets.specs.declared.kind_walk.KeyRead.{KeyRead}
 

@@ -14,19 +14,19 @@ use Rattle.numbers.specs.Ops.{num, decimal}
 use Rattle.sheets.specs.declared.value.Value.{Value}
 use Rattle.sheets.specs.declared.value.Value.the-variants.{Number}
 use Rattle.sheets.specs.declared.value.Slot.{Slot}
-use Rattle.sheets.specs.Slots.{emptySlot}
+use Rattle.sheets.specs.code.Slots.{emptySlot}
 use Rattle.sheets.specs.Text.{Word, ascii}
 use Rattle.sheets.specs.Grammar.{IsWord}
-use Rattle.sheets.specs.Codes.{codeOf, codeFrom, wordChar}
+use Rattle.sheets.specs.code.Codes.{codeOf, codeFrom, wordChar}
 use Rattle.sheets.specs.Table.{when}
 use Rattle.sheets.specs.Lookup.{sameWord}
 use Rattle.sheets.specs.Names.{Known, lookup, orElse, readingWords}
 use Rattle.sheets.specs.Machine.{readings}
 use Rattle.sheets.proofs.CodeLaws.{word-by}
 use Rattle.sheets.proofs.KindRowLaws.{words-agree}
-use Rattle.sheets.specs.Reader.{reading}
-use Rattle.sheets.specs.Operands.{foundOf}
-use Rattle.sheets.specs.Running.{orFound, slotFound, indexIn, readingIndex, readingFound, Tabled}
+use Rattle.sheets.specs.code.Reader.{reading}
+use Rattle.sheets.specs.code.Operands.{foundOf}
+use Rattle.sheets.specs.code.Running.{orFound, slotFound, indexIn, readingIndex, readingFound, Tabled}
 use Rattle.sheets.specs.declared.operands.Found.{Found}
 
 -- ---- one reading

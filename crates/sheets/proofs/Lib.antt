@@ -56,3 +56,4 @@ pub mod EffectSteps
 pub mod KnownLaws
 pub mod RunSteps
 pub mod AnswerSteps
+pub mod Computed

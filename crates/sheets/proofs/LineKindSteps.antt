@@ -11,13 +11,13 @@ use borrow.Author.Tests.{eq-eqb, ne-eqb}
 use Rattle.sheets.specs.Text.{Word}
 use Rattle.sheets.specs.Trees.{Expr, Line, let-line, show-line}
 use Rattle.sheets.specs.Grammar.{IsWord}
-use Rattle.sheets.specs.Codes.{wordChar, codeFrom, codeOf}
-use Rattle.sheets.specs.Reader.{Got, none as nothing, got, _then_, readWord, readExpr, orElse, nothing as none', opening, spaced, closing, limit, readLet, readShow, lineOf, readLine}
-use Rattle.sheets.specs.Views.{coded, closed}
+use Rattle.sheets.specs.code.Codes.{wordChar, codeFrom, codeOf}
+use Rattle.sheets.specs.code.Reader.{Got, none as nothing, got, _then_, readWord, readExpr, orElse, nothing as none', opening, spaced, closing, limit, readLet, readShow, lineOf, readLine}
+use Rattle.sheets.specs.code.Views.{coded, closed}
 use Rattle.sheets.specs.Kinds.{Kind, kindCode}
 use Rattle.sheets.specs.Lookup.{sameWord}
 use Rattle.sheets.specs.Names.{Known, orElse as orLater, lookup, knows, barred}
-use Rattle.sheets.specs.KindCodes.{Opens}
+use Rattle.sheets.specs.code.KindCodes.{Opens}
 use Rattle.sheets.specs.Refusals.{fault, refusalNumber}
 use Rattle.sheets.specs.Check.{Checked, fine, bad, thenᶜ, kindOfExpr}
 use Rattle.sheets.specs.declared.bytes.WordRead.{WordRead}
@@ -27,7 +27,7 @@ use Rattle.sheets.proofs.Inverse.{then-read}
 use Rattle.sheets.proofs.PieceSteps.{then-none, spaced-none, spaced-got, closing-none, closing-got}
 use Rattle.sheets.proofs.Viewed.{coded-none, coded-got}
 use Rattle.sheets.proofs.Slices.{word-is}
-use Rattle.sheets.specs.Walking.{FoundKind, Standing, kindSaid, ExprHas, unbarred, lineKind, lineSaid, LineHas, BarredWord}
+use Rattle.sheets.specs.code.Walking.{FoundKind, Standing, kindSaid, ExprHas, unbarred, lineKind, lineSaid, LineHas, BarredWord}
 use Rattle.sheets.specs.declared.kind_walk.KindRead.{KindRead}
 use Rattle.sheets.specs.declared.admit.LineKind.{LineKind}
 use Rattle.sheets.proofs.KindSteps.{found-kind, none-found, some-found}

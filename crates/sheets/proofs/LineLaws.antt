@@ -8,8 +8,8 @@ use lib.ListN.{length, getD}
 use Rattle.sheets.specs.Text.{Word, ascii}
 use Rattle.sheets.specs.Trees.{Expr, Line, let-line, show-line}
 use Rattle.sheets.specs.Grammar.{IsWord, IsExpr, print, printLine, LineParts, IsLine}
-use Rattle.sheets.specs.Codes.{letter, wordChar, codeFrom, codeOf}
-use Rattle.sheets.specs.Reader.{got, _then_, charsIf, chars, wordIf, readWord, readExpr, orElse, opening, spaced, limit, readLet, readShow, lineOf, readLine}
+use Rattle.sheets.specs.code.Codes.{letter, wordChar, codeFrom, codeOf}
+use Rattle.sheets.specs.code.Reader.{got, _then_, charsIf, chars, wordIf, readWord, readExpr, orElse, opening, spaced, limit, readLet, readShow, lineOf, readLine}
 use Rattle.sheets.proofs.ReaderLaws.{then-got, byte-inside, limit-is}
 use Rattle.sheets.proofs.Spans.{Spans, spans-append, spans-split, spans-end, Holds, holds-none, holds-then, holds-or, holds-map}
 use Rattle.sheets.proofs.TokenLaws.{WordAt, word-sound, word-complete}

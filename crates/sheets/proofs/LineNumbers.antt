@@ -12,7 +12,7 @@ use borrow.Author.Tests.{ne-eqb}
 use Rattle.sheets.specs.Text.{Word, ascii, _⌢_, lf, countLF}
 use Rattle.sheets.specs.Trees.{Num, Expr, Exprs, word-expr, num-expr, form-expr, nil, _▸_, Line, let-line, show-line, Head, wgs84, custom, Sheet}
 use Rattle.sheets.specs.Grammar.{Letter, Digit, Each, IsWord, IsNum, sign, point, printNum, print, printArgs, IsExpr, AreArgs, printHead, HeadParts, printLine, LineParts, printLines, AreLines, after, printSheet, IsSheet, Written, FirstBad, at-head, at-line, at-97, firstLines}
-use Rattle.sheets.specs.Reader.{got, readLine, readHead}
+use Rattle.sheets.specs.code.Reader.{got, readLine, readHead}
 use Rattle.sheets.proofs.Spans.{Spans, spans-drop, holds-at}
 use Rattle.sheets.proofs.CodeLaws.{word-chars}
 use Rattle.sheets.proofs.LineLaws.{LineStands, line-sound}

@@ -11,7 +11,7 @@ use borrow.Author.Tests.{eq-eqb, eqb-true, eqb-false}
 use Rattle.sheets.specs.Text.{Word, ascii, _⌢_, lf, countLF}
 use Rattle.sheets.specs.Trees.{Expr, Line, let-line, show-line}
 use Rattle.sheets.specs.Grammar.{print, printLine, IsLine}
-use Rattle.sheets.specs.Reader.{Got, got, readWord, readExpr, readLine}
+use Rattle.sheets.specs.code.Reader.{Got, got, readWord, readExpr, readLine}
 use Rattle.sheets.proofs.Spans.{Spans, spans-split, spans-end, holds-at}
 use Rattle.sheets.proofs.TokenLaws.{word-complete}
 use Rattle.sheets.proofs.ExprLaws.{expr-complete}

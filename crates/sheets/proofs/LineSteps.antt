@@ -6,9 +6,9 @@ use mathlib.Core.List.{List}
 use lib.ListN.{length}
 use borrow.Author.Tests.{eq-eqb, ne-eqb}
 use Rattle.sheets.specs.Trees.{Line, let-line, show-line}
-use Rattle.sheets.specs.Codes.{wordChar, codeFrom}
-use Rattle.sheets.specs.Reader.{Got, none, got, readWord, readExpr, orElse, opening, spaced, limit, readLet, readShow, lineOf, readLine}
-use Rattle.sheets.specs.Views.{place, coded, closed, Parts, LineAnswer}
+use Rattle.sheets.specs.code.Codes.{wordChar, codeFrom}
+use Rattle.sheets.specs.code.Reader.{Got, none, got, readWord, readExpr, orElse, opening, spaced, limit, readLet, readShow, lineOf, readLine}
+use Rattle.sheets.specs.code.Views.{place, coded, closed, Parts, LineAnswer}
 use Rattle.sheets.proofs.ReaderLaws.{then-got, limit-is}
 use Rattle.sheets.proofs.Viewed.{placed-none, placed-got, coded-none, coded-got}
 use Rattle.sheets.specs.declared.bytes.WordRead.{WordRead}

@@ -12,11 +12,11 @@ use Rattle.frames.specs.declared.orientation.Orientation.{Orientation}
 use Rattle.frames.specs.declared.orientation.Orientation.the-variants.{Enu, Ned, Body, Wan}
 use Rattle.sheets.specs.declared.value.Value.{Value}
 use Rattle.sheets.specs.Text.{Word}
-use Rattle.sheets.specs.Reader.{got, readWord}
+use Rattle.sheets.specs.code.Reader.{got, readWord}
 use Rattle.sheets.specs.Kinds.{kindOf, kindName, orientationName}
 use Rattle.sheets.specs.Output.{fields, fieldsText, outputLine}
 use Rattle.sheets.specs.Answers.{laid}
-use Rattle.sheets.specs.Writing.{writes, Written, part, valueText, fitting, room, lineIf}
+use Rattle.sheets.specs.code.Writing.{writes, Written, part, valueText, fitting, room, lineIf}
 use Rattle.sheets.proofs.Slices.{word-is, word-part}
 use Rattle.sheets.proofs.TextBound.{fields-length, few, name-length, line-length, word-length}
 use Rattle.sheets.proofs.WritingLaws.{length-laid, laid-more, written-then, part-length}

@@ -9,7 +9,7 @@ use lib.Dec.{eqb, ltb}
 use lib.ListN.{length, set, getD, replicate, getD-replicate, length-replicate, length-set}
 use lib.Seq.{getD-set-same, getD-set-other}
 use borrow.Author.Tests.{eqb-true, eqb-false, ltb-true, ltb-false}
-use Rattle.sheets.specs.Newest.{newestOf, Newest}
+use Rattle.sheets.specs.code.Newest.{newestOf, Newest}
 
 small : (c : ℕ) → c % 512 < 512
 small c = mod-lt c (omega arith)

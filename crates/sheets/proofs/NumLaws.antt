@@ -8,7 +8,7 @@ use lib.ListN.{length}
 use borrow.Author.Tests.{le-leb}
 use Rattle.sheets.specs.Trees.{Num, decimalFrom, numDigits}
 use Rattle.sheets.specs.Grammar.{Digit, Each, IsNum}
-use Rattle.sheets.specs.Codes.{digit}
+use Rattle.sheets.specs.code.Codes.{digit}
 
 -- the value of a digit, as the code has it
 pub digit-value : (b : ℕ) → Digit b → digit b - 1 ≡ b - 48

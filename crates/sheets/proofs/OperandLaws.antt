@@ -21,19 +21,19 @@ use Rattle.sheets.specs.declared.value.Slot.{Slot}
 use Rattle.sheets.specs.declared.bytes.WordRead.{WordRead}
 use Rattle.sheets.specs.Text.{Word}
 use Rattle.sheets.specs.Kinds.{kindOf, kindCode, place}
-use Rattle.sheets.specs.Slots.{emptySlot}
-use Rattle.sheets.specs.Codes.{codeOf, letter}
+use Rattle.sheets.specs.code.Slots.{emptySlot}
+use Rattle.sheets.specs.code.Codes.{codeOf, letter}
 use Rattle.sheets.specs.Table.{when}
 use Rattle.sheets.specs.Names.{Known}
-use Rattle.sheets.specs.Reader.{Got, none, got, wordIf, readWord, spaced, orElse, nothing}
-use Rattle.sheets.specs.Views.{coded}
+use Rattle.sheets.specs.code.Reader.{Got, none, got, wordIf, readWord, spaced, orElse, nothing}
+use Rattle.sheets.specs.code.Views.{coded}
 use Rattle.sheets.proofs.ReaderLaws.{byte-inside}
 use Rattle.sheets.proofs.Viewed.{coded-none, coded-got}
 use Rattle.sheets.proofs.Slices.{word-is}
-use Rattle.sheets.specs.Newest.{newestOf, Newest}
+use Rattle.sheets.specs.code.Newest.{newestOf, Newest}
 use Rattle.sheets.proofs.NewestLaws.{newest-none, newest-more, from-newest}
-use Rattle.sheets.specs.Operands.{unpacked, operand, floatsOf, codeFor, rowsWith, Ready}
-use Rattle.sheets.specs.Running.{orFound, slotFound, readingFound, Tabled}
+use Rattle.sheets.specs.code.Operands.{unpacked, operand, floatsOf, codeFor, rowsWith, Ready}
+use Rattle.sheets.specs.code.Running.{orFound, slotFound, readingFound, Tabled}
 use Rattle.sheets.specs.declared.operands.Found.{Found}
 
 -- ---- a value is read back

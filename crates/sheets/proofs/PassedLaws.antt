@@ -14,20 +14,20 @@ use mir.Val.{hasKey}
 use borrow.Author.Tests.{eq-eqb, ne-eqb, eqb-true, eqb-false, le-leb, lt-leb}
 use Rattle.sheets.specs.Text.{Word}
 use Rattle.sheets.specs.Grammar.{IsWord}
-use Rattle.sheets.specs.Codes.{wordChar, codeFrom, codeOf}
-use Rattle.sheets.specs.Reader.{Got, none, got, readWord, reading}
+use Rattle.sheets.specs.code.Codes.{wordChar, codeFrom, codeOf}
+use Rattle.sheets.specs.code.Reader.{Got, none, got, readWord, reading}
 use Rattle.sheets.specs.Kinds.{Kind, number, kindCode}
 use Rattle.sheets.specs.Table.{when}
 use Rattle.sheets.specs.Lookup.{sameWord}
 use Rattle.sheets.specs.Names.{Known, orElse, lookup, readingWords}
-use Rattle.sheets.specs.KindCodes.{kindOr255}
+use Rattle.sheets.specs.code.KindCodes.{kindOr255}
 use Rattle.sheets.specs.Check.{readingKinds}
 use Rattle.sheets.proofs.CodeLaws.{word-by}
 use Rattle.sheets.proofs.KindExact.{same-word}
 use Rattle.sheets.proofs.KindRowLaws.{words-agree, every, of-every}
-use Rattle.sheets.specs.Newest.{newestOf, Newest}
+use Rattle.sheets.specs.code.Newest.{newestOf, Newest}
 use Rattle.sheets.proofs.NewestLaws.{newest-more, from-newest}
-use Rattle.sheets.specs.Walking.{kindFrom, ReadingKind, Stands}
+use Rattle.sheets.specs.code.Walking.{kindFrom, ReadingKind, Stands}
 
 -- ---- the readings
 

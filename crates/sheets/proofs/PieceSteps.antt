@@ -7,8 +7,8 @@ use mathlib.Core.List.{List}
 use lib.Dec.{eqb}
 use lib.ListN.{length, getD}
 use borrow.Author.Tests.{eq-eqb, ne-eqb, lt-leb, eqb-true}
-use Rattle.sheets.specs.Reader.{Got, none, got, _then_, orElse, nothing, opening, spaced, closing, limit}
-use Rattle.sheets.specs.Views.{place, closed}
+use Rattle.sheets.specs.code.Reader.{Got, none, got, _then_, orElse, nothing, opening, spaced, closing, limit}
+use Rattle.sheets.specs.code.Views.{place, closed}
 use Rattle.sheets.proofs.ReaderLaws.{byte-inside}
 use Rattle.sheets.specs.declared.expr.Read.{Read}
 

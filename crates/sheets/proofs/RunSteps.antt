@@ -13,16 +13,16 @@ use Rattle.frames.specs.declared.ellipsoid.Ellipsoid.{Ellipsoid}
 use Rattle.frames.specs.declared.frame.LocalFrame.{LocalFrame}
 use Rattle.sheets.specs.declared.value.Value.{Value}
 use Rattle.sheets.specs.declared.value.Slot.{Slot}
-use Rattle.sheets.specs.Slots.{emptySlot, noNames}
+use Rattle.sheets.specs.code.Slots.{emptySlot, noNames}
 use Rattle.sheets.specs.Text.{Word}
 use Rattle.sheets.specs.Trees.{Expr, Line, let-line, show-line}
 use Rattle.sheets.specs.Grammar.{IsWord, after as afterPhase}
-use Rattle.sheets.specs.Codes.{codeOf}
+use Rattle.sheets.specs.code.Codes.{codeOf}
 use Rattle.sheets.specs.Names.{Known, lookup, barred}
 use Rattle.sheets.specs.Refusals.{Stop, stop, refusalNumber}
 use Rattle.sheets.specs.Output.{outputLine}
-use Rattle.sheets.specs.Writing.{Written, lineIf, room}
-use Rattle.sheets.specs.Reader.{got, readWord, readLine, formed, readLines}
+use Rattle.sheets.specs.code.Writing.{Written, lineIf, room}
+use Rattle.sheets.specs.code.Reader.{got, readWord, readLine, formed, readLines}
 use Rattle.sheets.specs.Machine.{Out, goes, stops, sticks, after, then as thenᵒ, meet, eval, Given, State, give, write, step, Ran, done, stopped, stuck, afterwards, onward, steps}
 use Rattle.sheets.specs.declared.answers.RunAnswer.{RunAnswer}
 use Rattle.sheets.specs.Answers.{laid, ranAnswer, ranText}
@@ -31,8 +31,8 @@ use Rattle.sheets.proofs.Slices.{part, line-part, line-alone, word-is}
 use Rattle.sheets.proofs.Walks.{Step, walk-end, walk-line}
 use Rattle.sheets.proofs.TextBound.{line-length, word-length}
 use Rattle.sheets.proofs.LineText.{line-laid}
-use Rattle.sheets.specs.Operands.{Ready}
-use Rattle.sheets.specs.Running.{orFound, slotFound, readingFound, Tabled, NextLine, letEffect, showEffect, EffectOf, EffectWith, Runs}
+use Rattle.sheets.specs.code.Operands.{Ready}
+use Rattle.sheets.specs.code.Running.{orFound, slotFound, readingFound, Tabled, NextLine, letEffect, showEffect, EffectOf, EffectWith, Runs}
 use Rattle.sheets.specs.declared.effects.Effect.{Effect}
 use Rattle.sheets.proofs.LinePlaces.{let-places, space-late}
 use Rattle.sheets.proofs.OperandLaws.{Upto, upto-ready}

@@ -8,10 +8,10 @@ use lib.ListN.{length, take, drop}
 use lib.Seq.{take-append-seam}
 use Rattle.sheets.specs.Trees.{Word, Line}
 use Rattle.sheets.specs.Grammar.{Letter, Digit, Each, IsWord, printLine}
-use Rattle.sheets.specs.Codes.{codeOf}
-use Rattle.sheets.specs.Reader.{got, readWord, readLine}
-use Rattle.sheets.specs.Views.{coded}
-pub use Rattle.sheets.specs.Writing.{part}
+use Rattle.sheets.specs.code.Codes.{codeOf}
+use Rattle.sheets.specs.code.Reader.{got, readWord, readLine}
+use Rattle.sheets.specs.code.Views.{coded}
+pub use Rattle.sheets.specs.code.Writing.{part}
 use Rattle.sheets.specs.declared.bytes.WordRead.{WordRead}
 use Rattle.sheets.proofs.Spans.{Spans, spans-end, spans-drop, drop-spans, holds-at}
 use Rattle.sheets.proofs.ReaderLaws.{byte-inside}

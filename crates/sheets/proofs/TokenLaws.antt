@@ -11,8 +11,8 @@ use borrow.Author.Tests.{eq-eqb, ne-eqb, le-leb, lt-leb, eqb-true, eqb-false, le
 use Rattle.sheets.specs.Text.{Word}
 use Rattle.sheets.specs.Trees.{Num}
 use Rattle.sheets.specs.Grammar.{Letter, Digit, Each, IsWord, IsNum, point, printNum}
-use Rattle.sheets.specs.Codes.{letter, wordChar, digit}
-use Rattle.sheets.specs.Reader.{Got, none, got, charsIf, chars, wordIf, readWord, partEnd, partIf, wholeStep, readWhole, signIf, readNum}
+use Rattle.sheets.specs.code.Codes.{letter, wordChar, digit}
+use Rattle.sheets.specs.code.Reader.{Got, none, got, charsIf, chars, wordIf, readWord, partEnd, partIf, wholeStep, readWhole, signIf, readNum}
 use Rattle.sheets.proofs.ReaderLaws.{chars-stop, chars-more, whole-is, part-is}
 use Rattle.sheets.proofs.Spans.{Spans, spans-append, spans-split, spans-end, Holds, holds-none, holds-got}
 

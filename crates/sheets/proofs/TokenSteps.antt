@@ -9,13 +9,13 @@ use lib.Dec.{eqb, leb}
 use lib.ListN.{length, getD, List·getD-eq-default}
 use borrow.Author.Tests.{eq-eqb, ne-eqb, leb-true, leb-false}
 use Rattle.sheets.specs.Trees.{decimalFrom}
-use Rattle.sheets.specs.Codes.{letter, wordChar, digit, codeFrom}
-use Rattle.sheets.specs.Reader.{chars, wordIf, readWord, partEnd, partIf, wholeStep, readWhole, signIf, readNum}
+use Rattle.sheets.specs.code.Codes.{letter, wordChar, digit, codeFrom}
+use Rattle.sheets.specs.code.Reader.{chars, wordIf, readWord, partEnd, partIf, wholeStep, readWhole, signIf, readNum}
 use Rattle.sheets.proofs.ReaderLaws.{chars-stop, chars-more, whole-is, part-is}
 use Rattle.sheets.proofs.TokenLaws.{Some, digit-is, each-map, chars-run}
 use Rattle.sheets.proofs.NumLaws.{digit-value, decimal-bound, decimal-append}
 use Rattle.sheets.specs.Grammar.{Digit}
-use Rattle.sheets.specs.Views.{coded, digitsRead, counted}
+use Rattle.sheets.specs.code.Views.{coded, digitsRead, counted}
 use Rattle.sheets.specs.declared.bytes.WordRead.{WordRead}
 use Rattle.sheets.specs.declared.num.DigitsRead.{DigitsRead}
 use Rattle.sheets.specs.declared.num.NumRead.{NumRead}

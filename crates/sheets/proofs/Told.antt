@@ -4,9 +4,9 @@ use native.Mathlib.Omega.{arith}
 use mathlib.Core.Path.{_≡_, refl, sym, ap, _∙_}
 use mathlib.Core.List.{List}
 use Rattle.sheets.specs.Trees.{Word, Num, Expr, Line, let-line, show-line, Head, wgs84, custom}
-use Rattle.sheets.specs.Codes.{codeOf}
-use Rattle.sheets.specs.Reader.{Got, none, got, readWord, readNum, readExpr, readLine}
-use Rattle.sheets.specs.Views.{nameAt, Parts, LineAnswer, HeadAnswer}
+use Rattle.sheets.specs.code.Codes.{codeOf}
+use Rattle.sheets.specs.code.Reader.{Got, none, got, readWord, readNum, readExpr, readLine}
+use Rattle.sheets.specs.code.Views.{nameAt, Parts, LineAnswer, HeadAnswer}
 use Rattle.sheets.specs.declared.lines.NameAt.{NameAt}
 use Rattle.sheets.specs.declared.lines.LineForm.{LineForm}
 use Rattle.sheets.specs.declared.lines.LineAt.{LineAt}

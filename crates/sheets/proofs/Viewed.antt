@@ -5,10 +5,10 @@ use mathlib.Core.Path.{_≡_, refl, sym, ap, _∙_}
 use lib.Ieee.{Float}
 use Rattle.sheets.specs.Text.{Word}
 use Rattle.sheets.specs.Trees.{Num}
-use Rattle.sheets.specs.Codes.{codeOf}
-use Rattle.sheets.specs.Reader.{Got, none, got}
+use Rattle.sheets.specs.code.Codes.{codeOf}
+use Rattle.sheets.specs.code.Reader.{Got, none, got}
 use Rattle.sheets.specs.Limits.{numValue}
-use Rattle.sheets.specs.Views.{place, coded, counted, numeralOf, doubled}
+use Rattle.sheets.specs.code.Views.{place, coded, counted, numeralOf, doubled}
 use Rattle.sheets.specs.declared.bytes.WordRead.{WordRead}
 use Rattle.sheets.specs.declared.num.Numeral.{Numeral}
 use Rattle.sheets.specs.declared.num.NumRead.{NumRead}

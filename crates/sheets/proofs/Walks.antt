@@ -9,7 +9,7 @@ use lib.ListN.{length}
 use borrow.Author.Tests.{le-leb, lt-leb}
 use Rattle.sheets.specs.Trees.{Line, Head, Sheet}
 use Rattle.sheets.specs.Grammar.{allowed, after}
-use Rattle.sheets.specs.Reader.{Got, none, got, orElse, nothing, readLine, permitted, readIn, readHead, Form, formed, badLine, _thenᶠ_, linesStep, readLines, sheetStep, readSheet}
+use Rattle.sheets.specs.code.Reader.{Got, none, got, orElse, nothing, readLine, permitted, readIn, readHead, Form, formed, badLine, _thenᶠ_, linesStep, readLines, sheetStep, readSheet}
 
 -- ---- the lines of the sheet
 

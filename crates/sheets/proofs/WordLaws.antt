@@ -15,12 +15,12 @@ use Rattle.sheets.specs.declared.value.Value.{Value}
 use Rattle.sheets.specs.declared.args.Applied.{Applied}
 use Rattle.sheets.specs.Text.{Word}
 use Rattle.sheets.specs.Grammar.{Letter, Digit, Each, IsWord}
-use Rattle.sheets.specs.Codes.{codeOf}
+use Rattle.sheets.specs.code.Codes.{codeOf}
 use Rattle.sheets.specs.Letters.{hold}
 use Rattle.sheets.specs.Table.{Row, table}
 use Rattle.sheets.specs.Lookup.{sameWord, hit, find}
-use Rattle.sheets.specs.Applied.{applied}
-use Rattle.sheets.specs.KindCodes.{Missed}
+use Rattle.sheets.specs.code.Applied.{applied}
+use Rattle.sheets.specs.code.KindCodes.{Missed}
 use Rattle.sheets.proofs.CodeLaws.{code-same}
 use Rattle.sheets.proofs.KindExact.{same-word}
 use Rattle.sheets.proofs.HeldLaws.{wrong-length}

@@ -10,7 +10,7 @@ use lib.Seq.{sets, sets-eq, set-comm, take-append-seam, drop-append-add, drop-dr
 use lib.Ieee.{Float, binary64, toBits}
 use Rattle.sheets.specs.Answers.{laid}
 use Rattle.sheets.specs.Output.{hexDigit, hex, field, fieldsText}
-use Rattle.sheets.specs.Writing.{writes, Written, part}
+use Rattle.sheets.specs.code.Writing.{writes, Written, part}
 use Rattle.sheets.proofs.TextBound.{hex-length}
 
 -- ---- writes

@@ -7,7 +7,7 @@ use lib.ListN.{length, drop}
 use lib.Ieee.{Float}
 use Rattle.numbers.specs.Ops.{num}
 use Rattle.sheets.specs.Trees.{Head, wgs84, custom, Sheet}
-use Rattle.sheets.specs.Reader.{Form, formed, badLine, readSheet}
+use Rattle.sheets.specs.code.Reader.{Form, formed, badLine, readSheet}
 use Rattle.sheets.specs.Limits.{numValue, between}
 use Rattle.sheets.specs.Refusals.{Refusal, size, lent, form, ellipsoid, fault, stop, refusalNumber}
 pub use Rattle.sheets.specs.declared.answers.CheckAnswer.{CheckAnswer}

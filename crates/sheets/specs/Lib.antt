@@ -1,9 +1,6 @@
 pub mod Text
 pub mod Trees
 pub mod Grammar
-pub mod Codes
-pub mod Reader
-pub mod Slots
 pub mod Kinds
 pub mod Letters
 pub mod Table
@@ -17,15 +14,5 @@ pub mod Check
 pub mod Admitted
 pub mod Answers
 pub mod Claim
-pub mod Applied
-pub mod KindCodes
-pub mod Views
-pub mod Writing
-pub mod FirstLines
-pub mod Newest
-pub mod Walking
-pub mod Operands
-pub mod Evaluating
-pub mod Running
 pub mod Both
-pub mod Computed
+pub mod code

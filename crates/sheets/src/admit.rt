@@ -18,10 +18,10 @@ use crate::lines::opening;
 use crate::lines::word_slot;
 use crate::newest::put_newest;
 ghost use mathlib.Core.Path.{_≡_};
-ghost use Rattle.sheets.specs.Reader.{readLet, readShow, readLine, readSheet};
+ghost use Rattle.sheets.specs.code.Reader.{readLet, readShow, readLine, readSheet};
 ghost use Rattle.sheets.specs.Answers.{ofForm};
 ghost use Rattle.sheets.specs.declared.admit.Outcome.{Outcome};
-ghost use Rattle.sheets.specs.Walking.{ForKnown, BarredWord, LineHas, LinesWalk, Admits};
+ghost use Rattle.sheets.specs.code.Walking.{ForKnown, BarredWord, LineHas, LinesWalk, Admits};
 
 // The code of a line's word, its kind's code and the place of the next line, or the number of the refusal.
 pub enum LineKind {

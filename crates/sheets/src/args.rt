@@ -13,7 +13,7 @@ ghost use mathlib.Core.List.{[], _∷_};
 ghost use Rattle.sheets.specs.Kinds.{place, sameOrientation};
 ghost use Rattle.sheets.specs.Letters.{hold, 𝐚, 𝐥};
 ghost use Rattle.sheets.specs.Table.{notBody, enuOrNed};
-ghost use Rattle.sheets.specs.Applied.{lengths, aer};
+ghost use Rattle.sheets.specs.code.Applied.{lengths, aer};
 ghost use Rattle.sheets.specs.declared.value.Value.{Value};
 ghost use Rattle.sheets.specs.declared.args.Applied.{Applied};
 

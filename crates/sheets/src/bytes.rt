@@ -3,9 +3,9 @@
 ghost use Prim.Native.Nat.{_+_, min};
 ghost use mathlib.Core.Path.{_≡_};
 ghost use lib.ListN.{length};
-ghost use Rattle.sheets.specs.Codes.{letter, wordChar, digit};
-ghost use Rattle.sheets.specs.Reader.{readWord};
-ghost use Rattle.sheets.specs.Views.{ByteAt, CharOf, coded};
+ghost use Rattle.sheets.specs.code.Codes.{letter, wordChar, digit};
+ghost use Rattle.sheets.specs.code.Reader.{readWord};
+ghost use Rattle.sheets.specs.code.Views.{ByteAt, CharOf, coded};
 
 // A word's code in base 37 and the place after it.
 pub enum WordRead {

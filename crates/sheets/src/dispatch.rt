@@ -7,7 +7,7 @@ use frames::ellipsoid::Ellipsoid;
 use frames::orientation::Orientation;
 ghost use mathlib.Core.List.{[], _∷_};
 ghost use lib.ListN.{take};
-ghost use Rattle.sheets.specs.Applied.{Applies};
+ghost use Rattle.sheets.specs.code.Applied.{Applies};
 
 pub fn apply_one(e: Ellipsoid, code: u64, p: Value) -> Applied
     ensures { λ r. ⌜ Applies e code (p ∷ []) r ⌝ }

@@ -10,7 +10,7 @@ use crate::operands::operand_at;
 use crate::value::Value;
 use frames::ellipsoid::Ellipsoid;
 ghost use mathlib.Core.Path.{_≡_};
-ghost use Rattle.sheets.specs.Running.{NextLine, LetWith, ShowWith, EffectWith};
+ghost use Rattle.sheets.specs.code.Running.{NextLine, LetWith, ShowWith, EffectWith};
 
 // It gives the word with this code a value; it shows a value under the word that ends at this place; or the machine stops, by the refusal's number, or sticks.
 pub enum Effect {

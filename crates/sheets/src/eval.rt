@@ -15,7 +15,7 @@ ghost use mathlib.Core.Path.{_≡_};
 ghost use mathlib.Core.List.{[]};
 ghost use lib.ListN.{take};
 ghost use Rattle.sheets.specs.Machine.{met};
-ghost use Rattle.sheets.specs.Evaluating.{evaluated, EvalsWith, LeafWith, RowHas, BracketWith};
+ghost use Rattle.sheets.specs.code.Evaluating.{evaluated, EvalsWith, LeafWith, RowHas, BracketWith};
 
 // A value and the place after its expression; the number of the refusal that stops the machine, 7 or 8; or that the machine sticks.
 pub enum Evaluated {

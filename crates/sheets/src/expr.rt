@@ -5,8 +5,8 @@ use crate::bytes::word;
 use crate::num::NumRead;
 use crate::num::num;
 ghost use mathlib.Core.Path.{_≡_};
-ghost use Rattle.sheets.specs.Reader.{readArgs, readExpr};
-ghost use Rattle.sheets.specs.Views.{place};
+ghost use Rattle.sheets.specs.code.Reader.{readArgs, readExpr};
+ghost use Rattle.sheets.specs.code.Views.{place};
 
 // The place after what was read, or Bad where it is not of the grammar.
 pub enum Read {

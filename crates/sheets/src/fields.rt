@@ -5,7 +5,7 @@ ghost use mathlib.Core.List.{[], _∷_};
 ghost use Prim.Native.Nat.{_+_, _<_, _≤_};
 ghost use lib.ListN.{length};
 ghost use Rattle.sheets.specs.Output.{hexDigit, hex, fieldsText};
-ghost use Rattle.sheets.specs.Writing.{Written};
+ghost use Rattle.sheets.specs.code.Writing.{Written};
 
 const DIGITS: [u8; 16] = *b"0123456789abcdef";
 

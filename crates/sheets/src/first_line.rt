@@ -9,8 +9,8 @@ ghost use mathlib.Core.Path.{_≡_};
 ghost use mathlib.Core.Bool.{_&&_};
 ghost use Rattle.numbers.specs.Ops.{num};
 ghost use Rattle.sheets.specs.Limits.{between};
-ghost use Rattle.sheets.specs.Reader.{readHead};
-ghost use Rattle.sheets.specs.FirstLines.{firstOf, ByNumbers};
+ghost use Rattle.sheets.specs.code.Reader.{readHead};
+ghost use Rattle.sheets.specs.code.FirstLines.{firstOf, ByNumbers};
 
 // The ellipsoid and the place of line 2; or a number of it is out of range; or the bytes begin with no line 1.
 pub enum FirstLine {

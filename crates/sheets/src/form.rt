@@ -5,8 +5,8 @@ use crate::head::head;
 use crate::lines::LineRead;
 use crate::lines::line;
 ghost use mathlib.Core.Path.{_≡_};
-ghost use Rattle.sheets.specs.Reader.{readLine, readHead, readSheet};
-ghost use Rattle.sheets.specs.Views.{place, formOf};
+ghost use Rattle.sheets.specs.code.Reader.{readLine, readHead, readSheet};
+ghost use Rattle.sheets.specs.code.Views.{place, formOf};
 
 // How many lines there are, or the number of the first that is not of the grammar, 97 where there are more than 96.
 pub enum FormRead {

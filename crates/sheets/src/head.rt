@@ -8,8 +8,8 @@ use crate::lines::word_slot;
 use crate::num::NumRead;
 use crate::num::num;
 ghost use mathlib.Core.Path.{_≡_};
-ghost use Rattle.sheets.specs.Reader.{readWord, readNum, spaced, readCustom, wgsOr, readHead};
-ghost use Rattle.sheets.specs.Views.{counted, HeadAnswer};
+ghost use Rattle.sheets.specs.code.Reader.{readWord, readNum, spaced, readCustom, wgsOr, readHead};
+ghost use Rattle.sheets.specs.code.Views.{counted, HeadAnswer};
 
 // Line 1: the places of its two numbers, where it has them, and the place of the next line.
 pub enum HeadRead {

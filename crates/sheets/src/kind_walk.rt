@@ -9,7 +9,7 @@ use crate::kinds::kind_of_row;
 use crate::newest::newest_of;
 use crate::num::NumRead;
 use crate::num::num;
-ghost use Rattle.sheets.specs.Walking.{ReadingKind, FoundKind, ForKnown, LeafHas, ExprHas, ArgsHave};
+ghost use Rattle.sheets.specs.code.Walking.{ReadingKind, FoundKind, ForKnown, LeafHas, ExprHas, ArgsHave};
 
 // The code of a kind and the place after the expression, or the number of the refusal.
 pub enum KindRead {

@@ -4,7 +4,7 @@
 ghost use mathlib.Core.Path.{_≡_};
 ghost use lib.Dec.{eqb};
 ghost use Rattle.sheets.specs.Table.{when};
-ghost use Rattle.sheets.specs.KindCodes.{RowKind, RowKindBeyond, Opens, plainCodes};
+ghost use Rattle.sheets.specs.code.KindCodes.{RowKind, RowKindBeyond, Opens, plainCodes};
 
 // A row: the kind that it gives where the kinds met are those it takes, else the answer of the rows behind it.
 fn row(key: u64, takes: u64, gives: u8, rest: u8) -> u8

@@ -5,8 +5,8 @@ use crate::bytes::word;
 use crate::expr::Read;
 use crate::expr::expr;
 ghost use mathlib.Core.Path.{_≡_};
-ghost use Rattle.sheets.specs.Reader.{readWord, readExpr, opening, spaced, readLet, readShow, lineOf, readLine};
-ghost use Rattle.sheets.specs.Views.{place, closed, coded, LineAnswer};
+ghost use Rattle.sheets.specs.code.Reader.{readWord, readExpr, opening, spaced, readLet, readShow, lineOf, readLine};
+ghost use Rattle.sheets.specs.code.Views.{place, closed, coded, LineAnswer};
 
 // A line's word: its code, the place of its first byte, and the place after it.
 pub struct NameAt {

@@ -16,9 +16,9 @@ use crate::value::Value;
 use crate::value::no_names;
 use frames::ellipsoid::Ellipsoid;
 ghost use mathlib.Core.Path.{_≡_};
-ghost use Rattle.sheets.specs.Slots.{noNames};
+ghost use Rattle.sheets.specs.code.Slots.{noNames};
 ghost use Rattle.sheets.specs.declared.operands.Found.{Found};
-ghost use Rattle.sheets.specs.Running.{readingIndex, readingFound, orFound, Runs};
+ghost use Rattle.sheets.specs.code.Running.{readingIndex, readingFound, orFound, Runs};
 
 // The number of the reading whose word has this code; 16 for none.
 fn reading_index(code: u64) -> usize

@@ -4,9 +4,9 @@ use crate::bytes::digit;
 use numbers::float::decimal;
 ghost use mathlib.Core.Path.{_≡_};
 ghost use Prim.Native.Nat.{_<_, _≤_, _^_};
-ghost use Rattle.sheets.specs.Codes.{digit};
-ghost use Rattle.sheets.specs.Reader.{chars, readWhole, readNum};
-ghost use Rattle.sheets.specs.Views.{digitsRead, counted, doubled};
+ghost use Rattle.sheets.specs.code.Codes.{digit};
+ghost use Rattle.sheets.specs.code.Reader.{chars, readWhole, readNum};
+ghost use Rattle.sheets.specs.code.Views.{digitsRead, counted, doubled};
 
 // Some digits: their number, how many there are, and the place after them.
 pub struct DigitsRead {

@@ -17,7 +17,7 @@ ghost use mathlib.Core.Path.{_≡_};
 ghost use Prim.Native.Nat.{_<_};
 ghost use lib.ListN.{set};
 ghost use Rattle.sheets.specs.Kinds.{kindOf, kindCode};
-ghost use Rattle.sheets.specs.Operands.{vecAt, numberIn, angleIn, lengthIn, geocentricIn, geodeticIn, vectorIn, frameIn, unpacked, operand, short, floatsOf, codeFor, rowsWith};
+ghost use Rattle.sheets.specs.code.Operands.{vecAt, numberIn, angleIn, lengthIn, geocentricIn, geodeticIn, vectorIn, frameIn, unpacked, operand, short, floatsOf, codeFor, rowsWith};
 
 // What a word stands for.
 pub enum Found {

@@ -26,7 +26,7 @@ ghost use mathlib.Core.List.{[], _∷_};
 ghost use Rattle.sheets.specs.Text.{ascii};
 ghost use Rattle.sheets.specs.Table.{table};
 ghost use Rattle.sheets.specs.Lookup.{find};
-ghost use Rattle.sheets.specs.Applied.{applied, vectorWord, aerWord};
+ghost use Rattle.sheets.specs.code.Applied.{applied, vectorWord, aerWord};
 
 pub fn apply_deg(e: Ellipsoid, p: Value) -> Applied
     ensures { λ r. ⌜ r ≡ applied e (find table (ascii "deg") (p ∷ [])) ⌝ }

@@ -16,7 +16,7 @@ ghost use lib.ListN.{length};
 ghost use Rattle.sheets.specs.Kinds.{orientationName};
 ghost use Rattle.sheets.specs.Output.{fieldsText};
 ghost use Rattle.sheets.specs.declared.value.Value.{Value};
-ghost use Rattle.sheets.specs.Writing.{Written, part, byRows, valueText, fitting, room, lineIf};
+ghost use Rattle.sheets.specs.code.Writing.{Written, part, byRows, valueText, fitting, room, lineIf};
 
 // Three letters.
 fn put_letters(a: u8, b: u8, c: u8, out: &mut [u8], at: usize) -> usize

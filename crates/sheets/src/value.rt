@@ -6,7 +6,7 @@ use frames::vector::LocalVector;
 use numbers::angle::Angle;
 use numbers::length::Length;
 ghost use mathlib.Core.Path.{_≡_};
-ghost use Rattle.sheets.specs.Slots.{noNames};
+ghost use Rattle.sheets.specs.code.Slots.{noNames};
 
 // A sheet value.
 pub enum Value {

@@ -3,7 +3,7 @@ use native.Mathlib.Omega.{arith}
 use Prim.Native.Nat.{_-_, _≤_}
 use mathlib.Core.Path.{_≡_, refl}
 use lib.ListN.{length, take, length-set}
-use Rattle.boresheet.specs.Readings.{readingsFrom, readingsOf}
+use Rattle.boresheet.specs.code.Readings.{readingsFrom, readingsOf}
 use Rattle.boresheet.proofs.ReadingSteps.{file-all, file-long, file-short, file-bad, file-turn}
 use borrow.Author.Needs.{needs}
 use Rattle.boresheet.proofs.readings.readings_of.Statement.{statement}

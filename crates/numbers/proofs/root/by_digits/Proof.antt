@@ -6,7 +6,7 @@ use native.Mathlib.Nat.{pow-suc}
 use native.Mathlib.Numerals.{add-one}
 use native.Mathlib.Omega.{arith}
 use lib.Pow.{pow-mono}
-use Rattle.numbers.specs.RootSteps.{Squared}
+use Rattle.numbers.specs.code.RootSteps.{Squared}
 use Rattle.numbers.proofs.root.by_digits.Statement.{statement}
 use Rattle.numbers.proofs.root.by_digits.Tie as tie
 

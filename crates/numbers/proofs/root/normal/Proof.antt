@@ -6,7 +6,7 @@ use native.Mathlib.Nat.{pow-suc, mul-one}
 use native.Mathlib.Omega.{arith}
 use lib.Pow.{pow-add}
 use borrow.Author.Needs.{needs}
-use Rattle.numbers.specs.RootSteps.{unitsOf, unitsAt}
+use Rattle.numbers.specs.code.RootSteps.{unitsOf, unitsAt}
 use Rattle.numbers.proofs.Isqrt.{four, below-or-not}
 use Rattle.numbers.proofs.root.normal.Statement.{statement}
 use Rattle.numbers.proofs.root.normal.Tie as tie

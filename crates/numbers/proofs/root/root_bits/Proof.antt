@@ -3,7 +3,7 @@ use mathlib.Core.Path.{_≡_, subst}
 use Prim.Native.Nat.{ℕ, _+_, _*_}
 use native.Mathlib.Omega.{arith}
 use borrow.Author.Needs.{needs}
-use Rattle.numbers.specs.RootSteps.{RootOf}
+use Rattle.numbers.specs.code.RootSteps.{RootOf}
 use Rattle.numbers.proofs.Rounded.{rounded-up, rounded-down}
 use Rattle.numbers.proofs.root.root_bits.Statement.{statement}
 use Rattle.numbers.proofs.root.root_bits.Tie as tie

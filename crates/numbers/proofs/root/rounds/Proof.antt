@@ -6,7 +6,7 @@ use native.Mathlib.Nat.{mul-le-mul}
 use native.Mathlib.Omega.{arith}
 use lib.Dec.{T, ltb→lt}
 use borrow.Author.Needs.{needs}
-use Rattle.numbers.specs.RootSteps.{Rounds}
+use Rattle.numbers.specs.code.RootSteps.{Rounds}
 use Rattle.numbers.proofs.root.rounds.Statement.{statement}
 use Rattle.numbers.proofs.root.rounds.Tie as tie
 

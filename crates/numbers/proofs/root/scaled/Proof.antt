@@ -3,7 +3,7 @@ use mathlib.Core.Path.{_≡_, sym, ap, _∙_}
 use Prim.Native.Nat.{ℕ, _*_, _/_, _%_, _^_, _≤_, _<_}
 use native.Mathlib.Omega.{arith}
 use borrow.Author.Needs.{needs}
-use Rattle.numbers.specs.RootSteps.{Lifted, unitsOf, unitsAt}
+use Rattle.numbers.specs.code.RootSteps.{Lifted, unitsOf, unitsAt}
 use Rattle.numbers.proofs.root.scaled.Statement.{statement}
 use Rattle.numbers.proofs.root.scaled.Tie as tie
 

@@ -2,7 +2,7 @@
 use borrow.Author.Needs.{needs}
 use Rattle.probe.specs.Words.{padded}
 use Rattle.probe.specs.Table.{angleConstants}
-use Rattle.numbers.specs.Computed.{computed}
+use Rattle.numbers.proofs.Computed.{computed}
 use Rattle.probe.proofs.matrices.angle_constants.Statement.{statement}
 use Rattle.probe.proofs.matrices.angle_constants.Tie as tie
 

@@ -2,7 +2,7 @@
 use borrow.Author.Needs.{needs}
 use Rattle.probe.specs.Words.{padded, withVector}
 use Rattle.probe.specs.Table.{vectorConstants}
-use Rattle.numbers.specs.Computed.{computed}
+use Rattle.numbers.proofs.Computed.{computed}
 use Rattle.probe.proofs.matrices.vector_constants.Statement.{statement}
 use Rattle.probe.proofs.matrices.vector_constants.Tie as tie
 

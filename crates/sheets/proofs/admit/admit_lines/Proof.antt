@@ -6,7 +6,7 @@ use mathlib.Core.List.{List}
 use lib.ListN.{length, length-set}
 use borrow.Author.Needs.{needs}
 use Rattle.sheets.specs.Trees.{Line}
-use Rattle.sheets.specs.Reader.{formed, readLines}
+use Rattle.sheets.specs.code.Reader.{formed, readLines}
 use Rattle.sheets.specs.Check.{stepsᶜ, startᶜ}
 use Rattle.sheets.proofs.AdmitSteps.{Midway, midway-start, walk-done, walk-over, walk-fault, walk-on}
 use Rattle.sheets.proofs.admit.admit_lines.Statement.{statement}

@@ -2,7 +2,7 @@
 use native.Mathlib.Omega.{arith}
 use borrow.Author.Needs.{needs}
 use borrow.Author.Tests.{le-leb, lt-leb}
-use Rattle.sheets.specs.Codes.{digit}
+use Rattle.sheets.specs.code.Codes.{digit}
 use Rattle.sheets.proofs.bytes.digit.Statement.{statement}
 use Rattle.sheets.proofs.bytes.digit.Tie as tie
 

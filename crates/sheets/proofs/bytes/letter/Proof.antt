@@ -2,7 +2,7 @@
 use native.Mathlib.Omega.{arith}
 use borrow.Author.Needs.{needs}
 use borrow.Author.Tests.{le-leb, lt-leb}
-use Rattle.sheets.specs.Codes.{letter}
+use Rattle.sheets.specs.code.Codes.{letter}
 use Rattle.sheets.proofs.bytes.letter.Statement.{statement}
 use Rattle.sheets.proofs.bytes.letter.Tie as tie
 

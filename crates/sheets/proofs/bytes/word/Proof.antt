@@ -3,9 +3,9 @@ use Prim.Native.Nat.{_≤_, _<_, _-_, _+_, _*_, _^_}
 use native.Mathlib.Omega.{arith}
 use mathlib.Core.Path.{_≡_}
 use borrow.Author.Needs.{needs}
-use Rattle.sheets.specs.Codes.{wordChar}
-use Rattle.sheets.specs.Reader.{chars, readWord}
-use Rattle.sheets.specs.Views.{coded}
+use Rattle.sheets.specs.code.Codes.{wordChar}
+use Rattle.sheets.specs.code.Reader.{chars, readWord}
+use Rattle.sheets.specs.code.Views.{coded}
 use Rattle.sheets.proofs.TokenSteps.{wordOf, cap, word-none, word-some, word-small, word-grow, word-turn, word-stop, word-end}
 use Rattle.sheets.proofs.bytes.word.Statement.{statement}
 use Rattle.sheets.proofs.bytes.word.Tie as tie

@@ -2,7 +2,7 @@
 use native.Mathlib.Omega.{arith}
 use borrow.Author.Needs.{needs}
 use borrow.Author.Tests.{le-leb, lt-leb}
-use Rattle.sheets.specs.Codes.{wordChar}
+use Rattle.sheets.specs.code.Codes.{wordChar}
 use Rattle.sheets.proofs.bytes.word_char.Statement.{statement}
 use Rattle.sheets.proofs.bytes.word_char.Tie as tie
 

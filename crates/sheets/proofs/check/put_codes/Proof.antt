@@ -3,7 +3,7 @@ use native.Mathlib.Omega.{arith}
 use Prim.Native.Nat.{_-_, _≤_}
 use mathlib.Core.Path.{_≡_, refl}
 use lib.ListN.{length, length-set}
-use Rattle.sheets.specs.Writing.{writes, part}
+use Rattle.sheets.specs.code.Writing.{writes, part}
 use Rattle.sheets.proofs.WritingLaws.{name-turn}
 use Rattle.sheets.proofs.AnswerSteps.{codes-put}
 use borrow.Author.Needs.{needs}

@@ -3,10 +3,10 @@ use mathlib.Core.Path.{sym, ap, _∙_, subst}
 use mathlib.Core.List.{List, [], _∷_}
 use Prim.Native.Nat.{ℕ}
 use Rattle.sheets.specs.Text.{ascii}
-use Rattle.sheets.specs.Codes.{wordChar, codeFrom}
+use Rattle.sheets.specs.code.Codes.{wordChar, codeFrom}
 use Rattle.sheets.specs.Table.{table}
-use Rattle.sheets.specs.Applied.{applied}
-use Rattle.sheets.specs.KindCodes.{Missed}
+use Rattle.sheets.specs.code.Applied.{applied}
+use Rattle.sheets.specs.code.KindCodes.{Missed}
 use Rattle.sheets.proofs.WordLaws.{arm, no-row}
 use borrow.Author.Needs.{needs}
 use Rattle.sheets.proofs.dispatch.apply_five.Statement.{statement}

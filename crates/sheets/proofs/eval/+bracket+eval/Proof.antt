@@ -7,8 +7,8 @@ use lib.ListN.{length, take, length-set}
 use borrow.Author.Needs.{needs}
 use borrow.Fn.Kinds.{In}
 use borrow.Fn.PlainCycle.{Measures, is, falls, and}
-use Rattle.sheets.specs.Views.{ByteAt}
-use Rattle.sheets.specs.Evaluating.{BracketWith}
+use Rattle.sheets.specs.code.Views.{ByteAt}
+use Rattle.sheets.specs.code.Evaluating.{BracketWith}
 use Rattle.sheets.specs.declared.eval.Evaluated.{Evaluated}
 use Rattle.sheets.proofs.ExprSteps.{expr-deep, expr-no-word}
 use Rattle.sheets.proofs.EvalSteps.{evals-bad, evals-leaf, push-more}

@@ -1,6 +1,6 @@
 -- `sheets::fields::put_byte` meets its contract. Assumes nothing.
 use mathlib.Core.Path.{refl}
-use Rattle.sheets.specs.Writing.{writes}
+use Rattle.sheets.specs.code.Writing.{writes}
 use borrow.Author.Needs.{needs}
 use Rattle.sheets.proofs.fields.put_byte.Statement.{statement}
 use Rattle.sheets.proofs.fields.put_byte.Tie as tie

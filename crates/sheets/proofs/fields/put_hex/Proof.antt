@@ -5,7 +5,7 @@ use Prim.Native.Nat.{_≤_}
 use native.Mathlib.Omega.{arith}
 use lib.ListN.{length, length-set}
 use Rattle.sheets.specs.Output.{hex}
-use Rattle.sheets.specs.Writing.{writes}
+use Rattle.sheets.specs.code.Writing.{writes}
 use Rattle.sheets.proofs.WritingLaws.{hex-turn, hex-written}
 use Rattle.sheets.proofs.fields.put_hex.Statement.{statement}
 use Rattle.sheets.proofs.fields.put_hex.Tie as tie

@@ -2,7 +2,7 @@
 use Rattle.sheets.proofs.PieceSteps.{spaced-none}
 use Rattle.sheets.proofs.ReaderLaws.{spaced-is}
 use mathlib.Core.Path.{ap, sym, _∙_}
-use Rattle.sheets.specs.Views.{counted}
+use Rattle.sheets.specs.code.Views.{counted}
 use borrow.Author.Needs.{needs}
 use Rattle.sheets.proofs.head.num_slot.Statement.{statement}
 use Rattle.sheets.proofs.head.num_slot.Tie as tie

@@ -3,9 +3,9 @@ use native.Mathlib.Omega.{arith}
 use Prim.Native.Nat.{_*_, _+_, _-_, _^_, _≤_}
 use mathlib.Core.Path.{_∙_}
 use borrow.Author.Needs.{needs}
-use Rattle.sheets.specs.Views.{ByteAt}
+use Rattle.sheets.specs.code.Views.{ByteAt}
 use Rattle.sheets.proofs.ExprSteps.{expr-deep, expr-no-word}
-use Rattle.sheets.specs.Walking.{ForKnown, ArgsHave}
+use Rattle.sheets.specs.code.Walking.{ForKnown, ArgsHave}
 use Rattle.sheets.specs.declared.kind_walk.KeyRead.{KeyRead}
 use Rattle.sheets.proofs.KindSteps.{has-none, form-refused, form-no-row, form-row, have-closed, have-sixth, have-other, have-refused, have-more, key-grows}
 use Prim.Native.Nat.{ℕ, _<_}

@@ -4,9 +4,9 @@ use Prim.Native.Nat.{_≤_}
 use mathlib.Core.Path.{_≡_, sym, _∙_}
 use borrow.Author.Needs.{needs}
 use Rattle.sheets.specs.Text.{Word}
-use Rattle.sheets.specs.Codes.{codeOf}
-use Rattle.sheets.specs.Newest.{newestOf}
-use Rattle.sheets.specs.Walking.{kindFrom}
+use Rattle.sheets.specs.code.Codes.{codeOf}
+use Rattle.sheets.specs.code.Newest.{newestOf}
+use Rattle.sheets.specs.code.Walking.{kindFrom}
 use Rattle.sheets.proofs.PassedLaws.{found-here, found-before, found-last, found-from}
 use Rattle.sheets.proofs.kind_walk.find_kind.Statement.{statement}
 use Rattle.sheets.proofs.kind_walk.find_kind.Tie as tie

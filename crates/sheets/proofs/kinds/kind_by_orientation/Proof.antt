@@ -2,10 +2,10 @@
 use mathlib.Core.List.{List, [], _∷_}
 use Prim.Native.Nat.{ℕ}
 use Rattle.sheets.specs.Text.{ascii}
-use Rattle.sheets.specs.Codes.{wordChar, codeFrom}
+use Rattle.sheets.specs.code.Codes.{wordChar, codeFrom}
 use Rattle.sheets.specs.Table.{table}
 use Rattle.sheets.specs.Lookup.{kindRows}
-use Rattle.sheets.specs.KindCodes.{keyFrom, plainCodes}
+use Rattle.sheets.specs.code.KindCodes.{keyFrom, plainCodes}
 use Rattle.sheets.proofs.KindRowLaws.{searchNum, kind-arm, no-kind}
 use borrow.Author.Needs.{needs}
 use Rattle.sheets.proofs.kinds.kind_by_orientation.Statement.{statement}

@@ -1,9 +1,9 @@
 -- `sheets::kinds::kind_of_row` meets its contract. Assumes nothing.
 use Rattle.sheets.specs.Text.{ascii}
-use Rattle.sheets.specs.Codes.{wordChar, codeFrom}
+use Rattle.sheets.specs.code.Codes.{wordChar, codeFrom}
 use Rattle.sheets.specs.Table.{table}
 use Rattle.sheets.specs.Lookup.{kindRows}
-use Rattle.sheets.specs.KindCodes.{keyFrom}
+use Rattle.sheets.specs.code.KindCodes.{keyFrom}
 use Rattle.sheets.proofs.KindRowLaws.{searchNum, kind-arm}
 use borrow.Author.Needs.{needs}
 use Rattle.sheets.proofs.kinds.kind_of_row.Statement.{statement}

@@ -1,6 +1,6 @@
 -- `sheets::kinds::opens` meets its contract. Assumes nothing.
 use mathlib.Core.List.{[], _∷_}
-use Rattle.sheets.specs.Codes.{wordChar, codeFrom}
+use Rattle.sheets.specs.code.Codes.{wordChar, codeFrom}
 use Rattle.sheets.specs.Table.{table}
 use Rattle.sheets.proofs.KindRowLaws.{opens-yes, opens-no}
 use Rattle.sheets.proofs.kinds.opens.Statement.{statement}

@@ -2,7 +2,7 @@
 use Rattle.sheets.proofs.PieceSteps.{open-none}
 use Rattle.sheets.proofs.ReaderLaws.{open-is}
 use mathlib.Core.Path.{ap, sym, _∙_}
-use Rattle.sheets.specs.Views.{coded}
+use Rattle.sheets.specs.code.Views.{coded}
 use borrow.Author.Needs.{needs}
 use Rattle.sheets.proofs.lines.opening.Statement.{statement}
 use Rattle.sheets.proofs.lines.opening.Tie as tie

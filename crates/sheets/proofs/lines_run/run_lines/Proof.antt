@@ -5,8 +5,8 @@ use mathlib.Core.Path.{_≡_, refl, _∙_}
 use mathlib.Core.List.{List}
 use lib.ListN.{length, length-replicate, length-set}
 use Rattle.sheets.specs.declared.answers.RunAnswer.{RunAnswer}
-use Rattle.sheets.specs.Slots.{noNames}
-use Rattle.sheets.specs.Running.{orFound, slotFound, readingFound, Runs}
+use Rattle.sheets.specs.code.Slots.{noNames}
+use Rattle.sheets.specs.code.Running.{orFound, slotFound, readingFound, Runs}
 use Rattle.sheets.proofs.OperandLaws.{Upto, upto-none, upto-skip, upto-put, Seeks, NewestIn, newest-start, newest-again, seek-start, seek-hit, seek-miss, known-is}
 use Rattle.sheets.proofs.RunSteps.{runs-end, runs-over, runs-stops, runs-sticks, runs-gives, runs-shows, part-short, no-names-length, names-start}
 use borrow.Author.Needs.{needs}

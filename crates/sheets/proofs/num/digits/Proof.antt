@@ -4,9 +4,9 @@ use native.Mathlib.Nat.{pow-le-pow-right}
 use native.Mathlib.Omega.{arith}
 use mathlib.Core.Path.{_≡_}
 use borrow.Author.Needs.{needs}
-use Rattle.sheets.specs.Codes.{digit}
-use Rattle.sheets.specs.Reader.{chars}
-use Rattle.sheets.specs.Views.{digitsRead}
+use Rattle.sheets.specs.code.Codes.{digit}
+use Rattle.sheets.specs.code.Reader.{chars}
+use Rattle.sheets.specs.code.Views.{digitsRead}
 use Rattle.sheets.proofs.TokenSteps.{digitsOf, grow, cap, digits-start, digits-turn, digits-stop, digits-end}
 use Rattle.sheets.proofs.num.digits.Statement.{statement}
 use Rattle.sheets.proofs.num.digits.Tie as tie

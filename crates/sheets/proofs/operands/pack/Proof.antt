@@ -1,6 +1,6 @@
 -- `sheets::operands::pack` meets its contract. Assumes nothing.
 use mathlib.Core.Path.{refl}
-use Rattle.sheets.specs.Operands.{floatsOf}
+use Rattle.sheets.specs.code.Operands.{floatsOf}
 use borrow.Author.Needs.{needs}
 use Rattle.sheets.proofs.operands.pack.Statement.{statement}
 use Rattle.sheets.proofs.operands.pack.Tie as tie

@@ -1,6 +1,6 @@
 -- `sheets::operands::put_found` meets its contract. Assumes nothing.
 use mathlib.Core.Path.{refl}
-use Rattle.sheets.specs.Operands.{codeFor, rowsWith}
+use Rattle.sheets.specs.code.Operands.{codeFor, rowsWith}
 use borrow.Author.Needs.{needs}
 use Rattle.sheets.proofs.operands.put_found.Statement.{statement}
 use Rattle.sheets.proofs.operands.put_found.Tie as tie

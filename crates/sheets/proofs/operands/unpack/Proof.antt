@@ -1,6 +1,6 @@
 -- `sheets::operands::unpack` meets its contract. Assumes nothing.
 use borrow.Author.Tests.{ne-eqb}
-use Rattle.sheets.specs.Operands.{unpacked}
+use Rattle.sheets.specs.code.Operands.{unpacked}
 use borrow.Author.Needs.{needs}
 use Rattle.sheets.proofs.operands.unpack.Statement.{statement}
 use Rattle.sheets.proofs.operands.unpack.Tie as tie

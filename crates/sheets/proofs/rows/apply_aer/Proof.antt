@@ -1,6 +1,6 @@
 -- `sheets::rows::apply_aer` meets its contract. Assumes nothing.
 use mathlib.Core.Path.{ap, _∙_}
-use Rattle.sheets.specs.Applied.{aer}
+use Rattle.sheets.specs.code.Applied.{aer}
 use Rattle.sheets.proofs.FamilyLaws.{aer-row}
 use Rattle.sheets.specs.declared.value.Value.{Value}
 use Rattle.sheets.specs.declared.args.Applied.{Applied}

@@ -1,6 +1,6 @@
 -- `sheets::rows::apply_vector` meets its contract. Assumes nothing.
 use mathlib.Core.Path.{ap, _∙_}
-use Rattle.sheets.specs.Applied.{lengths}
+use Rattle.sheets.specs.code.Applied.{lengths}
 use Rattle.sheets.proofs.FamilyLaws.{vector-row}
 use Rattle.sheets.specs.declared.value.Value.{Value}
 use Rattle.sheets.specs.declared.args.Applied.{Applied}

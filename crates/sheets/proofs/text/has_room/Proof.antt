@@ -3,7 +3,7 @@ use Prim.Native.Nat.{_+_}
 use mathlib.Core.Path.{refl, sym}
 use native.Mathlib.Omega.{arith}
 use borrow.Author.Tests.{le-leb, lt-leb}
-use Rattle.sheets.specs.Writing.{fitting}
+use Rattle.sheets.specs.code.Writing.{fitting}
 use Rattle.sheets.proofs.LineText.{fitting-is}
 use Rattle.sheets.proofs.text.has_room.Statement.{statement}
 use Rattle.sheets.proofs.text.has_room.Tie as tie

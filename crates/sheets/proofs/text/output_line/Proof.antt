@@ -2,7 +2,7 @@
 use Prim.Native.Nat.{_+_, _-_, _≤_}
 use native.Mathlib.Omega.{arith}
 use lib.ListN.{length}
-use Rattle.sheets.specs.Writing.{part}
+use Rattle.sheets.specs.code.Writing.{part}
 use Rattle.sheets.proofs.LineText.{room-told, value-length, line-none, line-whole}
 use borrow.Author.Needs.{needs}
 use Rattle.sheets.proofs.text.output_line.Statement.{statement}

@@ -1,7 +1,7 @@
 -- `sheets::text::put_geocentric` meets its contract. Assumes nothing.
 use mathlib.Core.List.{[], _∷_}
 use Rattle.sheets.specs.Output.{fieldsText}
-use Rattle.sheets.specs.Writing.{valueText}
+use Rattle.sheets.specs.code.Writing.{valueText}
 use Rattle.sheets.proofs.WritingLaws.{written-then}
 use borrow.Author.Needs.{needs}
 use Rattle.sheets.proofs.text.put_geocentric.Statement.{statement}

@@ -3,7 +3,7 @@ use mathlib.Core.Path.{_≡_, refl}
 use Prim.Native.Nat.{_+_, _-_, _≤_}
 use native.Mathlib.Omega.{arith}
 use lib.ListN.{length, length-set}
-use Rattle.sheets.specs.Writing.{writes, part}
+use Rattle.sheets.specs.code.Writing.{writes, part}
 use Rattle.sheets.proofs.WritingLaws.{name-turn, name-written}
 use Rattle.sheets.proofs.text.put_name.Statement.{statement}
 use Rattle.sheets.proofs.text.put_name.Tie as tie

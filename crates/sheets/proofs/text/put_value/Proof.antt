@@ -1,5 +1,5 @@
 -- `sheets::text::put_value` meets its contract. Assumes nothing.
-use Rattle.sheets.specs.Writing.{valueText}
+use Rattle.sheets.specs.code.Writing.{valueText}
 use borrow.Author.Needs.{needs}
 use Rattle.sheets.proofs.text.put_value.Statement.{statement}
 use Rattle.sheets.proofs.text.put_value.Tie as tie

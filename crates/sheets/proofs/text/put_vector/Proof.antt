@@ -3,7 +3,7 @@ use mathlib.Core.List.{[], _∷_}
 use native.Mathlib.Omega.{arith}
 use Rattle.sheets.specs.Kinds.{orientationName}
 use Rattle.sheets.specs.Output.{fieldsText}
-use Rattle.sheets.specs.Writing.{valueText}
+use Rattle.sheets.specs.code.Writing.{valueText}
 use Rattle.sheets.proofs.WritingLaws.{written-then}
 use Rattle.sheets.proofs.LineText.{orientation-length}
 use borrow.Author.Needs.{needs}

@@ -17,7 +17,7 @@ use Rattle.sheets.specs.Text.{Word}
 use Rattle.sheets.specs.Kinds.{kindOf, kindCode}
 use Rattle.sheets.specs.Table.{when}
 use Rattle.sheets.specs.Names.{Known, lookup}
-use Rattle.sheets.specs.Reader.{got, readWord}
+use Rattle.sheets.specs.code.Reader.{got, readWord}
 use Rattle.sheets.specs.declared.operands.Found.{Found}
 
 -- ---- a value from its kind's code and a row of floats

@@ -5,7 +5,7 @@ use mathlib.Core.Path.{_≡_}
 use mathlib.Core.Bool.{Bool, true, false}
 use mathlib.Core.List.{List}
 use Rattle.sheets.specs.Trees.{Num, Head, custom}
-use Rattle.sheets.specs.Reader.{Got, none, got, readNum}
+use Rattle.sheets.specs.code.Reader.{Got, none, got, readNum}
 use Rattle.sheets.specs.Machine.{surface}
 use Rattle.sheets.specs.Answers.{ranged}
 use Rattle.sheets.specs.declared.first_line.FirstLine.{FirstLine}

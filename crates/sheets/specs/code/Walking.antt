@@ -9,13 +9,13 @@ use lib.ListN.{length, getD, take}
 use Rattle.sheets.specs.Text.{Word}
 use Rattle.sheets.specs.Trees.{Expr, Exprs, Line, let-line, show-line}
 use Rattle.sheets.specs.Grammar.{IsWord}
-use Rattle.sheets.specs.Codes.{codeOf}
-use Rattle.sheets.specs.Reader.{Got, got, readArgs, readExpr, formed, readLines}
+use Rattle.sheets.specs.code.Codes.{codeOf}
+use Rattle.sheets.specs.code.Reader.{Got, got, readArgs, readExpr, formed, readLines}
 use Rattle.sheets.specs.Kinds.{Kind, kindCode}
 use Rattle.sheets.specs.Table.{when}
 use Rattle.sheets.specs.Names.{Known, lookup, barred}
-use Rattle.sheets.specs.Newest.{newestOf, Newest}
-use Rattle.sheets.specs.KindCodes.{keyFrom, kindOr255}
+use Rattle.sheets.specs.code.Newest.{newestOf, Newest}
+use Rattle.sheets.specs.code.KindCodes.{keyFrom, kindOr255}
 use Rattle.sheets.specs.Refusals.{name, Refusal, fault, refusalNumber}
 use Rattle.sheets.specs.Check.{Checked, fine, bad, thenᶜ, known?, kindOfExpr, kindsOfExprs, Walked, passes, refuses, stepsᶜ, readingKinds, startᶜ}
 use Rattle.sheets.specs.Answers.{Verdict, admitted, refused}

@@ -1,6 +1,6 @@
 -- `unfolding computed` under a theorem's signature has every definition here, and of the numbers, computed.
 use mathlib.Core.Bool.{Bool, true}
-use Rattle.numbers.specs.Computed as Numbers
+use Rattle.numbers.proofs.Computed as Numbers
 use Rattle.frames.specs.Positions.{nvectorToLatlong, latlongToNvector}
 use Rattle.frames.specs.Ellipsoids.{wgs84, ellipsoid, geodeticToGeocentric, pOf, qOf, uOf, kOf, geodeticBy, geocentricToGeodetic}
 use Rattle.frames.specs.Radii.{geocentricRadius, primeVerticalRadius, meridianRadius, latitudeRadius, meanRadius}

@@ -11,12 +11,12 @@ use Rattle.frames.specs.declared.ellipsoid.Ellipsoid.{Ellipsoid}
 use Rattle.sheets.specs.declared.value.Value.{Value}
 use Rattle.sheets.specs.declared.value.Value.the-variants.{Number}
 use Rattle.sheets.specs.declared.value.Slot.{Slot}
-use Rattle.sheets.specs.Slots.{emptySlot}
+use Rattle.sheets.specs.code.Slots.{emptySlot}
 use Rattle.sheets.specs.Text.{Word}
 use Rattle.sheets.specs.Trees.{Expr, Line, let-line, show-line}
 use Rattle.sheets.specs.Grammar.{IsWord}
-use Rattle.sheets.specs.Codes.{codeOf}
-use Rattle.sheets.specs.Reader.{got, readWord, readLine, formed, readLines}
+use Rattle.sheets.specs.code.Codes.{codeOf}
+use Rattle.sheets.specs.code.Reader.{got, readWord, readLine, formed, readLines}
 use Rattle.sheets.specs.Names.{Known, lookup}
 use Rattle.sheets.specs.Table.{when}
 use Rattle.sheets.specs.Refusals.{stop, refusalNumber}
@@ -24,7 +24,7 @@ use Rattle.sheets.specs.Machine.{Out, goes, stops, sticks, meet, eval, S
 use Rattle.sheets.specs.declared.answers.RunAnswer.{RunAnswer}
 use Rattle.sheets.specs.Answers.{laid, ranAnswer, ranText}
 use Rattle.sheets.specs.Claim.{Unstuck}
-use Rattle.sheets.specs.Operands.{foundOf, Ready}
+use Rattle.sheets.specs.code.Operands.{foundOf, Ready}
 use Rattle.sheets.specs.declared.operands.Found.{Found}
 use Rattle.sheets.specs.declared.effects.Effect.{Effect}
 

@@ -6,8 +6,8 @@ use mathlib.Core.List.{List}
 use lib.ListN.{length, getD}
 use Rattle.sheets.specs.Text.{Word}
 use Rattle.sheets.specs.Trees.{Num, decimalFrom, numDigits, Line, let-line, show-line, Head, wgs84, custom, Sheet}
-use Rattle.sheets.specs.Codes.{codeOf}
-use Rattle.sheets.specs.Reader.{Got, none, got, readWord, readNum, readExpr, closing, Form, formed, badLine}
+use Rattle.sheets.specs.code.Codes.{codeOf}
+use Rattle.sheets.specs.code.Reader.{Got, none, got, readWord, readNum, readExpr, closing, Form, formed, badLine}
 use Rattle.sheets.specs.Limits.{numValue}
 use Rattle.sheets.specs.declared.bytes.WordRead.{WordRead}
 use Rattle.sheets.specs.declared.num.DigitsRead.{DigitsRead}

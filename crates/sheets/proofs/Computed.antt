@@ -1,9 +1,9 @@
 -- `unfolding computed` under a theorem's signature has every definition here computed, with those of `frames` and `numbers`.
 use mathlib.Core.Bool.{Bool, true}
-use Rattle.numbers.specs.Computed.{computed as numbersComputed}
-use Rattle.frames.specs.Computed.{computed as framesComputed}
+use Rattle.numbers.proofs.Computed.{computed as numbersComputed}
+use Rattle.frames.proofs.Computed.{computed as framesComputed}
 use Rattle.sheets.specs.Trees.{decimalFrom}
-use Rattle.sheets.specs.Reader.{reading}
+use Rattle.sheets.specs.code.Reader.{reading}
 use Rattle.sheets.specs.Letters.{held, hold}
 use Rattle.sheets.specs.Table.{far, table}
 use Rattle.sheets.specs.Lookup.{find, kindRows, search, findKind}

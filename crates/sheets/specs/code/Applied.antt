@@ -14,7 +14,7 @@ use Rattle.sheets.specs.declared.args.Lengths.{Lengths}
 use Rattle.sheets.specs.declared.args.Aer.{Aer}
 use Rattle.sheets.specs.Text.{Word, ascii}
 use Rattle.sheets.specs.Grammar.{IsWord}
-use Rattle.sheets.specs.Codes.{codeOf}
+use Rattle.sheets.specs.code.Codes.{codeOf}
 use Rattle.sheets.specs.Letters.{Holds, 𝐚, 𝐥}
 use Rattle.sheets.specs.Table.{on, table}
 use Rattle.sheets.specs.Lookup.{Hit, find}

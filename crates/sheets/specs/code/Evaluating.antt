@@ -10,14 +10,14 @@ use Rattle.sheets.specs.declared.value.Value.{Value}
 use Rattle.sheets.specs.Text.{Word}
 use Rattle.sheets.specs.Trees.{Expr, Exprs}
 use Rattle.sheets.specs.Grammar.{IsWord}
-use Rattle.sheets.specs.Codes.{codeOf}
+use Rattle.sheets.specs.code.Codes.{codeOf}
 use Rattle.sheets.specs.Table.{table}
 use Rattle.sheets.specs.Lookup.{find}
-use Rattle.sheets.specs.Reader.{got, readArgs, readLeaf, readExpr}
+use Rattle.sheets.specs.code.Reader.{got, readArgs, readLeaf, readExpr}
 use Rattle.sheets.specs.Names.{Known}
 use Rattle.sheets.specs.Refusals.{stop, refusalNumber}
 use Rattle.sheets.specs.Machine.{Out, goes, stops, sticks, then, applyRow, eval, evals}
-use Rattle.sheets.specs.Operands.{Ready}
+use Rattle.sheets.specs.code.Operands.{Ready}
 use Rattle.sheets.specs.declared.eval.Evaluated.{Evaluated}
 
 -- the value and the place after the expression, or the refusal that stops the machine

@@ -8,7 +8,7 @@ use lib.ListN.{length, getD}
 use Rattle.sheets.specs.Text.{Word, ascii}
 use Rattle.sheets.specs.Trees.{Num, Expr, Exprs, word-expr, num-expr, form-expr, nil, _▸_, Line, let-line, show-line, Head, wgs84, custom, Sheet}
 use Rattle.sheets.specs.Grammar.{allowed, after}
-use Rattle.sheets.specs.Codes.{letter, wordChar, digit, codeFrom, codeOf}
+use Rattle.sheets.specs.code.Codes.{letter, wordChar, digit, codeFrom, codeOf}
 
 infixr 20 _then_ _thenᶠ_
 -- what was read and the place after it

@@ -1,0 +1,2 @@
+-- What the results of the inner functions mean. No part of it must be believed.
+pub mod RootSteps
