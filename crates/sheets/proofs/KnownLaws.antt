@@ -1,9 +1,9 @@
 -- The known words: the slots of the table and the readings stand for them at the start, and after each let. Assumes nothing.
-use Prim.Native.Nat.{ℕ, zero, suc, _+_, _-_, _<_, _≤_}
+use Prim.Native.Nat.{ℕ, zero, suc, _+_, _<_, _≤_}
 use native.Mathlib.Omega.{arith}
 use mathlib.Core.Path.{_≡_, refl, sym, ap, _∙_}
 use mathlib.Core.Bool.{Bool, true, false}
-use mathlib.Core.Option.{Option, none, some}
+use mathlib.Core.Option.{Option}
 use mathlib.Core.List.{List, [], _∷_}
 use lib.Dec.{eqb, leb}
 use lib.ListN.{length, getD, set, List·getD-eq-default}
@@ -15,18 +15,17 @@ use Rattle.sheets.specs.declared.value.Value.{Value}
 use Rattle.sheets.specs.declared.value.Value.the-variants.{Number}
 use Rattle.sheets.specs.declared.value.Slot.{Slot}
 use Rattle.sheets.specs.code.Slots.{emptySlot}
-use Rattle.sheets.specs.Text.{Word, ascii}
+use Rattle.sheets.specs.Text.{Word}
 use Rattle.sheets.specs.Grammar.{IsWord}
 use Rattle.sheets.specs.code.Codes.{codeOf, codeFrom, wordChar}
 use Rattle.sheets.specs.Table.{when}
 use Rattle.sheets.specs.Lookup.{sameWord}
 use Rattle.sheets.specs.Names.{Known, lookup, orElse, readingWords}
 use Rattle.sheets.specs.Machine.{readings}
-use Rattle.sheets.proofs.CodeLaws.{word-by}
+use Rattle.sheets.proofs.ReadingLaws.{codesOf, AreWords, readingCodes, readings-are}
 use Rattle.sheets.proofs.KindRowLaws.{words-agree}
-use Rattle.sheets.specs.code.Reader.{reading}
 use Rattle.sheets.specs.code.Operands.{foundOf}
-use Rattle.sheets.specs.code.Running.{orFound, slotFound, indexIn, readingIndex, readingFound, Tabled}
+use Rattle.sheets.specs.code.Running.{wordFound, indexIn, readingIndex, readingFound, Tabled}
 use Rattle.sheets.specs.declared.operands.Found.{Found}
 
 -- ---- one reading
@@ -92,16 +91,8 @@ found-or : (b : Bool) (x : Value) (o : Option Value) → foundOf (orElse b x o) 
 found-or true x o = refl
 found-or false x o = refl
 
-abbrev codes : List Word → List ℕ
-codes [] = []
-codes (w ∷ ws) = codeOf w ∷ codes ws
-
-abbrev AllWords : List Word → Type 0
-AllWords [] = Unit {0}
-AllWords (w ∷ ws) = IsWord w × AllWords ws
-
 -- the readings from the i-th on, where the first i are left out
-known-by-code : (ws : List Word) → AllWords ws → (w : Word) → IsWord w → (all : List Float) (i : ℕ) (rs : List Float) → ((j : ℕ) → getD rs j (num 0) ≡ getD all (i + j) (num 0)) → foundOf (lookup w (readings ws rs)) ≡ byCode (codes ws) (codeOf w) all i
+known-by-code : (ws : List Word) → AreWords ws → (w : Word) → IsWord w → (all : List Float) (i : ℕ) (rs : List Float) → ((j : ℕ) → getD rs j (num 0) ≡ getD all (i + j) (num 0)) → foundOf (lookup w (readings ws rs)) ≡ byCode (codesOf ws) (codeOf w) all i
 unfolding byCode
 known-by-code [] a w iw all i rs g = refl
 known-by-code (v ∷ ws) a w iw all i [] g =
@@ -115,44 +106,35 @@ known-by-code (v ∷ ws) a w iw all i (r ∷ rs) g =
     ∙ ap (λ x. when (eqb (codeOf w) (codeOf v)) (Found.Value (Number x)) (foundOf (lookup w (readings ws rs)))) (g 0 ∙ ap (λ k. getD all k (num 0)) (omega arith))
     ∙ ap (λ o. when (eqb (codeOf w) (codeOf v)) (Found.Value (Number (getD all i (num 0)))) o) (known-by-code ws (a .1) w iw all (suc i) rs (λ j. g (suc j) ∙ ap (λ k. getD all k (num 0)) (omega arith)))
 
-reading-words : AllWords readingWords
-unfolding reading
-reading-words = (word-by (ascii "r0") refl, (word-by (ascii "r1") refl, (word-by (ascii "r2") refl, (word-by (ascii "r3") refl, (word-by (ascii "r4") refl, (word-by (ascii "r5") refl, (word-by (ascii "r6") refl, (word-by (ascii "r7") refl, (word-by (ascii "r8") refl, (word-by (ascii "r9") refl, (word-by (ascii "r10") refl, (word-by (ascii "r11") refl, (word-by (ascii "r12") refl, (word-by (ascii "r13") refl, (word-by (ascii "r14") refl, (word-by (ascii "r15") refl, tt))))))))))))))))
-
-sixteen : (c : ℕ) (rs : List Float) → byCode (codes readingWords) c rs 0 ≡ readingFound c rs
+sixteen : (c : ℕ) (rs : List Float) → byCode readingCodes c rs 0 ≡ readingFound c rs
 unfolding readingFound readingIndex codeFrom wordChar
-sixteen c rs = by-index (codes readingWords) c rs 0 ∙ ap (λ m. when (leb 16 (readingIndex c)) Found.Unknown (Found.Value (Number (getD rs m (num 0))))) (omega arith)
+sixteen c rs = by-index readingCodes c rs 0 ∙ ap (λ m. when (leb 16 (readingIndex c)) Found.Unknown (Found.Value (Number (getD rs m (num 0))))) (omega arith)
 
 -- ---- the table
 
 pub tabled-start : (rs : List Float) (t : List Slot) → Tabled (readings readingWords rs) t 0 rs
-unfolding slotFound
-tabled-start rs t = record { is = λ w iw. known-by-code readingWords reading-words w iw rs 0 rs (λ j. ap (λ k. getD rs k (num 0)) (omega arith)) ∙ sixteen (codeOf w) rs }
+unfolding wordFound
+tabled-start rs t = record { is = λ w iw. known-by-code readingWords readings-are w iw rs 0 rs (λ j. ap (λ k. getD rs k (num 0)) (omega arith)) ∙ sixteen (codeOf w) rs }
 
-slots-kept : (n k : ℕ) → n ≤ k → (t : List Slot) (y : Slot) (c : ℕ) → slotFound n (set t k y) c ≡ slotFound n t c
-unfolding slotFound
-slots-kept zero k h t y c = refl
-slots-kept (suc n) k h t y c = rw (getD-set-other t k n y emptySlot (λ e. omega arith), slots-kept n k (omega arith) t y c) refl
-
-or-when : (b : Bool) (x f g : Found) → orFound (when b x f) g ≡ when b (orFound x g) (orFound f g)
-or-when true x f g = refl
-or-when false x f g = refl
+slots-kept : (n k : ℕ) → n < k → (t : List Slot) (rs : List Float) (y : Slot) (c : ℕ) → wordFound (set t k y) rs n c ≡ wordFound t rs n c
+unfolding wordFound
+slots-kept zero k h t rs y c = refl
+slots-kept (suc n) k h t rs y c = rw (getD-set-other t k (suc n) y emptySlot (λ e. omega arith), slots-kept n k (omega arith) t rs y c) refl
 
 -- a let gives the word w the value x
-pub tabled-let : (ps : Known Value) (t : List Slot) (n : ℕ) (rs : List Float) → Tabled ps t n rs → n < length t → (w : Word) → IsWord w → (x : Value) (y : Slot) → y .word ≡ codeOf w → y .value ≡ x → Tabled ((w, x) ∷ ps) (set t n y) (suc n) rs
-unfolding slotFound
+pub tabled-let : (ps : Known Value) (t : List Slot) (n : ℕ) (rs : List Float) → Tabled ps t n rs → suc n < length t → (w : Word) → IsWord w → (x : Value) (y : Slot) → y .word ≡ codeOf w → y .value ≡ x → Tabled ((w, x) ∷ ps) (set t (suc n) y) (suc n) rs
+unfolding wordFound
 tabled-let ps t n rs tb h w iw x y ew ev = record {
   is = λ v iv.
       found-or (sameWord v w) x (lookup v ps)
       ∙ ap (λ b. when b (Found.Value x) (foundOf (lookup v ps))) (sym (words-agree w v iw iv))
       ∙ ap (λ o. when (eqb (codeOf w) (codeOf v)) (Found.Value x) o) (tb .is v iv)
-      ∙ sym (or-when (eqb (codeOf w) (codeOf v)) (Found.Value x) (slotFound n t (codeOf v)) (readingFound (codeOf v) rs))
-      ∙ ap (λ z. orFound z (readingFound (codeOf v) rs)) (sym (now-there v));
+      ∙ sym (now-there v);
 }
   where
-    now-there : (v : Word) → slotFound (suc n) (set t n y) (codeOf v) ≡ when (eqb (codeOf w) (codeOf v)) (Found.Value x) (slotFound n t (codeOf v))
+    now-there : (v : Word) → wordFound (set t (suc n) y) rs (suc n) (codeOf v) ≡ when (eqb (codeOf w) (codeOf v)) (Found.Value x) (wordFound t rs n (codeOf v))
     now-there v =
-        ap (λ (z : Slot). when (eqb (z .word) (codeOf v)) (Found.Value (z .value)) (slotFound n (set t n y) (codeOf v))) (getD-set-same t n y emptySlot h)
-        ∙ ap (λ k. when (eqb k (codeOf v)) (Found.Value (y .value)) (slotFound n (set t n y) (codeOf v))) ew
-        ∙ ap (λ u. when (eqb (codeOf w) (codeOf v)) (Found.Value u) (slotFound n (set t n y) (codeOf v))) ev
-        ∙ ap (λ f. when (eqb (codeOf w) (codeOf v)) (Found.Value x) f) (slots-kept n n (omega arith) t y (codeOf v))
+        ap (λ (z : Slot). when (eqb (z .word) (codeOf v)) (Found.Value (z .value)) (wordFound (set t (suc n) y) rs n (codeOf v))) (getD-set-same t (suc n) y emptySlot h)
+        ∙ ap (λ k. when (eqb k (codeOf v)) (Found.Value (y .value)) (wordFound (set t (suc n) y) rs n (codeOf v))) ew
+        ∙ ap (λ u. when (eqb (codeOf w) (codeOf v)) (Found.Value u) (wordFound (set t (suc n) y) rs n (codeOf v))) ev
+        ∙ ap (λ f. when (eqb (codeOf w) (codeOf v)) (Found.Value x) f) (slots-kept n (suc n) (omega arith) t rs y (codeOf v))

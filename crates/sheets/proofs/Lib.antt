@@ -43,6 +43,7 @@ pub mod Slices
 pub mod WritingLaws
 pub mod LineText
 pub mod FirstLineSteps
+pub mod ReadingLaws
 pub mod NewestLaws
 pub mod PassedLaws
 pub mod KindSteps

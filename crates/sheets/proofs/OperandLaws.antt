@@ -1,16 +1,15 @@
 -- The operands of a line: what stands under a number after it was put there, that the others are as they were, and the words looked up so far. Assumes nothing.
-use Prim.Native.Nat.{ℕ, zero, suc, _+_, _-_, _/_, _%_, _<_, _≤_}
+use Prim.Native.Nat.{ℕ, zero, suc, _+_, _/_, _%_, _<_, _≤_}
 use native.Mathlib.Omega.{arith}
-use native.Mathlib.Numerals.{sub-one}
 use mathlib.Core.Path.{_≡_, refl, sym, ap, subst, _∙_}
 use mathlib.Core.Logic.{_⊎_, inl, inr, ⊎-elim}
 use mathlib.Core.Bool.{Bool, true, false}
 use mathlib.Core.List.{List, [], _∷_}
 use lib.Dec.{ltb, eqb}
-use lib.ListN.{length, set, getD, replicate, length-set}
+use lib.ListN.{length, set, getD, replicate, length-set, length-replicate}
 use lib.Seq.{getD-set-same, getD-set-other}
 use lib.Ieee.{Float}
-use borrow.Author.Tests.{lt-leb, ltb-true, ltb-false, eq-eqb, ne-eqb, eqb-true}
+use borrow.Author.Tests.{lt-leb, ltb-true, ltb-false, eq-eqb, eqb-true, eqb-false}
 use Rattle.frames.specs.declared.vector.LocalVector.{LocalVector}
 use Rattle.frames.specs.declared.frame.LocalFrame.{LocalFrame}
 use Rattle.frames.specs.declared.orientation.Orientation.{Orientation}
@@ -30,10 +29,10 @@ use Rattle.sheets.specs.code.Views.{coded}
 use Rattle.sheets.proofs.ReaderLaws.{byte-inside}
 use Rattle.sheets.proofs.Viewed.{coded-none, coded-got}
 use Rattle.sheets.proofs.Slices.{word-is}
-use Rattle.sheets.specs.code.Newest.{newestOf, Newest}
-use Rattle.sheets.proofs.NewestLaws.{newest-none, newest-more, from-newest}
+use Rattle.sheets.specs.code.Newest.{Newest, Placed}
+use Rattle.sheets.proofs.NewestLaws.{newest-none, newest-more, place-is, by-place}
 use Rattle.sheets.specs.code.Operands.{unpacked, operand, floatsOf, codeFor, rowsWith, Ready}
-use Rattle.sheets.specs.code.Running.{orFound, slotFound, readingFound, Tabled}
+use Rattle.sheets.specs.code.Running.{wordFound, readingFound, Tabled}
 use Rattle.sheets.specs.declared.operands.Found.{Found}
 
 -- ---- a value is read back
@@ -161,45 +160,23 @@ module _ (l ks : List ℕ) (fs : List (List Float)) (found : ℕ → Found) wher
 
 -- the whole line, which has no space before place 4, over slots and readings that stand for the known words
 pub upto-ready : (l ks : List ℕ) (fs : List (List Float)) (t : List Slot) (k : ℕ) (rs : List Float) (n : ℕ) → length l ≤ n → ((p : ℕ) → getD l p 0 ≡ 32 → 4 ≤ p)
-    → Upto l ks fs (λ c. orFound (slotFound k t c) (readingFound c rs)) n → (ps : Known Value) → Tabled ps t k rs → Ready l ks fs ps
+    → Upto l ks fs (wordFound t rs k) n → (ps : Known Value) → Tabled ps t k rs → Ready l ks fs ps
 upto-ready l ks fs t k rs n h from u ps tb = record {
   is = λ p sp w m e. u .is p (from p sp) (omega (arith, byte-inside l p 32 sp (omega arith))) sp w m e ∙ sym (tb .is w (word-is l (p + 1) w m e));
 }
 
 -- ---- the search for one word, the newest slot first
 
--- the code of the word in a slot
-abbrev wordIn : List Slot → ℕ → ℕ
-wordIn t i = getD t i emptySlot .word
+-- `words` lists the words of the first n slots after slot 0, and `newest` has their newest places
+pub record Listed (t : List Slot) (words newest : List ℕ) (n : ℕ) : Type 0 where
+  pub few : n ≤ 95
+  pub slots : length t ≡ 96
+  pub size : length words ≡ 96
+  pub same : (i : ℕ) → i < n → getD words (suc i) 0 ≡ getD t (suc i) emptySlot .word
+  pub from : Newest words n newest
 
--- the newest places of the words in the first n slots
-pub record NewestIn (t : List Slot) (n : ℕ) (newest : List ℕ) : Type 0 where
-  pub is : Newest (wordIn t) n newest
-
-pub newest-start : (t : List Slot) → NewestIn t 0 (replicate 512 0)
-newest-start t = record { is = newest-none (wordIn t) }
-
--- a let fills the next slot
-pub newest-again : (t : List Slot) (n : ℕ) (newest : List ℕ) → NewestIn t n newest → n < length t → (y : Slot) (c : ℕ) → y .word ≡ c
-    → (later : List ℕ) → later ≡ set newest (c % 512) (n + 1) → NewestIn (set t n y) (n + 1) later
-newest-again t n newest h l y c e later el = record {
-  is = subst (Newest (wordIn (set t n y)) (n + 1)) (ap (λ k. set newest (k % 512) (n + 1)) (ap (λ (z : Slot). z .word) (getD-set-same t n y emptySlot l) ∙ e) ∙ sym el)
-      (newest-more (wordIn t) n newest (h .is) (wordIn (set t n y)) (λ i m. ap (λ (z : Slot). z .word) (getD-set-other t n i y emptySlot (λ q. omega arith))));
-}
-
-pub record Seeks (n : ℕ) (t : List Slot) (c : ℕ) (found : Found) (j : ℕ) : Type 0 where
-  pub below : j ≤ n
-  pub none : 0 < j → found ≡ Found.Unknown
-  pub rest : orFound found (slotFound j t c) ≡ slotFound n t c
-
--- it begins at the newest place for the word's remainder
-pub seek-start : (n : ℕ) (t : List Slot) (newest : List ℕ) → NewestIn t n newest → (c j : ℕ) → j ≡ newestOf newest c → Seeks n t c Found.Unknown j
-unfolding slotFound
-seek-start n t newest h c j e = record {
-  below = omega (arith, h .is .most c);
-  none = λ z. refl;
-  rest = ap (λ k. slotFound k t c) e ∙ from-newest (wordIn t) n newest (h .is) c (λ k. slotFound k t c) (λ k q. rw (ne-eqb (wordIn t k) c q) refl);
-}
+pub listed-start : (t : List Slot) → length t ≡ 96 → Listed t (replicate 96 0) (replicate 512 0) 0
+listed-start t lt = record { few = omega arith; slots = lt; size = length-replicate {A = ℕ} 96 0; same = λ i h. absurd (omega arith); from = newest-none _ }
 
 -- what is read within the table does not depend on the default
 inside : (t : List Slot) (k : ℕ) (a b : Slot) → k < length t → getD t k a ≡ getD t k b
@@ -207,27 +184,30 @@ inside [] k a b h = absurd (omega arith)
 inside (x ∷ t) zero a b h = refl
 inside (x ∷ t) (suc k) a b h = inside t k a b (omega arith)
 
-slots-are : (t : List Slot) (c j : ℕ) → 0 < j → (d : Slot) → j - 1 < length t → slotFound j t c ≡ when (eqb (getD t (j - 1) d .word) c) (Found.Value (getD t (j - 1) d .value)) (slotFound (j - 1) t c)
-unfolding slotFound
-slots-are t c zero h d l = absurd (omega arith)
-slots-are t c (suc k) h d l = rw (inside t (suc k - 1) d emptySlot l, sub-one) refl
+module _ (t : List Slot) (words newest : List ℕ) (n : ℕ) (h : Listed t words newest n) where
+  -- a let fills the next slot
+  pub listed-let : n < 95 → (y : Slot) (c : ℕ) → y .word ≡ c → (later : List ℕ) → later ≡ set newest (c % 512) (n + 1) → Listed (set t (n + 1) y) (set words (n + 1) c) later (n + 1)
+  listed-let room y c e later el = record {
+    few = omega arith;
+    slots = length-set t _ _ ∙ h .slots;
+    size = length-set words _ _ ∙ h .size;
+    same = λ i l. go i l (eqb i n) refl;
+    from = subst (Newest (set words (n + 1) c) (n + 1)) (sym el) (newest-more words n newest (h .from) (omega (arith, h .size)) c);
+  }
+    where
+      go : (i : ℕ) → i < n + 1 → (b : Bool) → eqb i n ≡ b → getD (set words (n + 1) c) (suc i) 0 ≡ getD (set t (n + 1) y) (suc i) emptySlot .word
+      go i l true q =
+          let a : suc i ≡ n + 1 = omega (arith, eqb-true i n q) in
+          rw (a, getD-set-same words (n + 1) c 0 (omega (arith, h .size)), getD-set-same t (n + 1) y emptySlot (omega (arith, h .slots))) (sym e)
+      go i l false q =
+          let a : (i ≡ n → ⊥) = eqb-false i n q in
+          rw (getD-set-other words (n + 1) (suc i) c 0 (λ z. omega arith), getD-set-other t (n + 1) (suc i) y emptySlot (λ z. omega arith)) (h .same i (omega arith))
 
-module _ (n : ℕ) (t : List Slot) (c : ℕ) (found : Found) (j : ℕ) (h : 0 < j) (i : Seeks n t c found j) (d : Slot) (l : j - 1 < length t) where
-  pub seek-hit : getD t (j - 1) d .word ≡ c → (x : Found) → x ≡ Found.Value (getD t (j - 1) d .value) → Seeks n t c x 0
-  seek-hit q x e = record { below = omega (arith, i .below); none = λ z. absurd (omega arith); rest = rw e (rw (i .none h, slots-are t c j h d l, eq-eqb _ _ q) at (i .rest)) }
-
-  pub seek-miss : (getD t (j - 1) d .word ≡ c → ⊥) → Seeks n t c found (j - 1)
-  seek-miss q = record { below = omega (arith, i .below); none = λ z. i .none h; rest = rw (i .none h) (rw (i .none h, slots-are t c j h d l, ne-eqb _ _ q) at (i .rest)) }
-
-pub seek-end : (n : ℕ) (t : List Slot) (c : ℕ) (found : Found) (j : ℕ) → j ≤ 0 → Seeks n t c found j → found ≡ slotFound n t c
-unfolding slotFound
-seek-end n t c found zero h i = go found ∙ i .rest
-  where
-    go : (f : Found) → f ≡ orFound f Found.Unknown
-    go (Found.Value v) = refl
-    go Found.Unknown = refl
-seek-end n t c found (suc j) h i = absurd (omega arith)
-
--- what was found in the table, or else the reading
-pub known-is : (n : ℕ) (t : List Slot) (c : ℕ) (found : Found) (j : ℕ) → j ≤ 0 → Seeks n t c found j → (rs : List Float) (x : Found) → x ≡ orFound found (readingFound c rs) → x ≡ orFound (slotFound n t c) (readingFound c rs)
-known-is n t c found j h i rs x e = e ∙ ap (λ f. orFound f (readingFound c rs)) (seek-end n t c found j h i)
+  -- what the slot at the word's place holds, or else the reading
+  pub listed-is : (c j : ℕ) → Placed words newest c j → (d : Slot) (rs : List Float) (x : Found) → x ≡ when (eqb j 0) (readingFound c rs) (Found.Value (getD t j d .value)) → x ≡ wordFound t rs n c
+  unfolding wordFound
+  listed-is c j p d rs x e =
+      e
+      ∙ ap (λ (z : Slot). when (eqb j 0) (readingFound c rs) (Found.Value (z .value))) (inside t j d emptySlot (omega (arith, p .most, h .slots)))
+      ∙ ap (λ k. when (eqb k 0) (readingFound c rs) (Found.Value (getD t k emptySlot .value))) (place-is words n newest (h .from) (h .few) c j p)
+      ∙ sym (by-place words c (λ k. Found.Value (getD t k emptySlot .value)) (λ k. wordFound t rs k c) n (λ k l. ap (λ z. when (eqb z c) (Found.Value (getD t (suc k) emptySlot .value)) (wordFound t rs k c)) (sym (h .same k l))))

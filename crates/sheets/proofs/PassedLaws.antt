@@ -1,12 +1,11 @@
 -- The words of the lines passed, by their codes: the readings, a word's kind, and one line more. Assumes nothing.
 use Prim.Native.Nat.{ℕ, zero, suc, _+_, _-_, _%_, _<_, _≤_}
 use native.Mathlib.Omega.{arith}
-use native.Mathlib.Numerals.{sub-one}
 use mathlib.Core.Path.{_≡_, refl, sym, ap, _∙_, subst}
 use mathlib.Core.Bool.{Bool, true, false, _||_, _&&_}
 use mathlib.Core.List.{List, [], _∷_, map}
 use mathlib.Core.Option.{Option, some}
-use lib.Dec.{T, eqb, eqb→eq, leb}
+use lib.Dec.{T, eqb, leb}
 use lib.ListN.{length, set, getD}
 use lib.Seq.{getD-set-same, getD-set-other}
 use mir.Facts.{and-yes}
@@ -15,29 +14,20 @@ use borrow.Author.Tests.{eq-eqb, ne-eqb, eqb-true, eqb-false, le-leb, lt-leb}
 use Rattle.sheets.specs.Text.{Word}
 use Rattle.sheets.specs.Grammar.{IsWord}
 use Rattle.sheets.specs.code.Codes.{wordChar, codeFrom, codeOf}
-use Rattle.sheets.specs.code.Reader.{Got, none, got, readWord, reading}
 use Rattle.sheets.specs.Kinds.{Kind, number, kindCode}
 use Rattle.sheets.specs.Table.{when}
 use Rattle.sheets.specs.Lookup.{sameWord}
 use Rattle.sheets.specs.Names.{Known, orElse, lookup, readingWords}
 use Rattle.sheets.specs.code.KindCodes.{kindOr255}
 use Rattle.sheets.specs.Check.{readingKinds}
-use Rattle.sheets.proofs.CodeLaws.{word-by}
+use Rattle.sheets.proofs.ReadingLaws.{codesOf, AreWords, readingCodes, readings-are}
 use Rattle.sheets.proofs.KindExact.{same-word}
 use Rattle.sheets.proofs.KindRowLaws.{words-agree, every, of-every}
-use Rattle.sheets.specs.code.Newest.{newestOf, Newest}
-use Rattle.sheets.proofs.NewestLaws.{newest-more, from-newest}
+use Rattle.sheets.specs.code.Newest.{newestOf, Newest, placeFrom}
+use Rattle.sheets.proofs.NewestLaws.{newest-more, from-newest, by-place}
 use Rattle.sheets.specs.code.Walking.{kindFrom, ReadingKind, Stands}
 
 -- ---- the readings
-
-abbrev codesOf : List Word → List ℕ
-codesOf [] = []
-codesOf (v ∷ vs) = codeOf v ∷ codesOf vs
-
-abbrev AreWords : List Word → Type 0
-AreWords [] = Unit {0}
-AreWords (v ∷ vs) = IsWord v × AreWords vs
 
 by-codes : (vs : List Word) → AreWords vs → (w : Word) → IsWord w → when (hasKey (codesOf vs) (codeOf w)) 0 255 ≡ kindOr255 (lookup w (map (λ v. (v, number)) vs))
 by-codes [] h w hw = refl
@@ -48,36 +38,8 @@ by-codes (v ∷ vs) h w hw = rw (words-agree v w (h .0) hw) (go (sameWord w v) (
     go true e = refl
     go false e = e
 
--- the reader reads the word whole
-abbrev whole : Word → Got Word → Bool
-whole w none = false
-whole w (got v n) = sameWord v w && eqb n (length w)
-
-abbrev allWhole : List Word → Bool
-allWhole [] = true
-allWhole (v ∷ vs) = whole v (readWord v 0) && allWhole vs
-
-whole-word : (w : Word) (o : Got Word) → readWord w 0 ≡ o → T (whole w o) → IsWord w
-whole-word w none e t = absurd t
-whole-word w (got v n) e t =
-    let (p, q) = and-yes (sameWord v w) (eqb n (length w)) t in
-    word-by w (e ∙ ap (λ x. got x n) (same-word v w p) ∙ ap (got w) (eqb→eq n (length w) q))
-
-whole-words : (vs : List Word) → T (allWhole vs) → AreWords vs
-whole-words [] t = tt
-whole-words (v ∷ vs) t =
-    let (p, q) = and-yes (whole v (readWord v 0)) (allWhole vs) t in
-    (whole-word v (readWord v 0) refl p, whole-words vs q)
-
-words-are : AreWords readingWords
-unfolding reading
-words-are = whole-words readingWords tt
-
-abbrev readingCodes : List ℕ
-readingCodes = codesOf readingWords
-
 of-reading : (c r : ℕ) (b : Bool) → hasKey readingCodes c ≡ b → r ≡ when b 0 255 → ReadingKind c r
-of-reading c r b e h = record { is = λ w hw i. h ∙ ap (λ x. when x 0 255) (sym e) ∙ ap (λ x. when (hasKey readingCodes x) 0 255) (sym i) ∙ by-codes readingWords words-are w hw }
+of-reading c r b e h = record { is = λ w hw i. h ∙ ap (λ x. when x 0 255) (sym e) ∙ ap (λ x. when (hasKey readingCodes x) 0 255) (sym i) ∙ by-codes readingWords readings-are w hw }
 
 yes-is : (b : Bool) → T b → b ≡ true
 yes-is true t = refl
@@ -134,32 +96,24 @@ reading-between c l h = reading-not c (rw (le-leb 693 c (omega arith), lt-leb c 
 pub reading-behind : (c : ℕ) → 25710 < c → ReadingKind c 255
 reading-behind c h = reading-not c (rw (le-leb 693 c (omega arith), lt-leb c 702 (omega arith), le-leb 25705 c (omega arith), lt-leb c 25710 h) refl)
 
--- ---- a word's kind, a line at a time
+-- ---- a word's kind by its place: that of its line, or a reading's
 
-module _ (words codes : List ℕ) (w : Word) where
-  pub found-here : (i : ℕ) → 0 < i → getD words i 0 ≡ codeOf w → getD codes i 0 ≡ kindFrom words codes i w
+module _ (words codes : List ℕ) (w : Word) (n : ℕ) (c j : ℕ) (e : j ≡ placeFrom words n c) (i : codeOf w ≡ c) where
+  at-place : kindFrom words codes n w ≡ when (eqb j 0) (kindOr255 (lookup w readingKinds)) (getD codes j 0)
   unfolding kindFrom
-  found-here zero pos e = absurd (omega arith)
-  found-here (suc n) pos e = rw (eq-eqb (getD words (suc n) 0) (codeOf w) e) refl
+  at-place = by-place words (codeOf w) (λ k. getD codes k 0) (λ k. kindFrom words codes k w) n (λ k l. refl) ∙ ap (λ k. when (eqb k 0) (kindOr255 (lookup w readingKinds)) (getD codes k 0)) (ap (placeFrom words n) i ∙ sym e)
 
-  pub found-before : (i : ℕ) → 0 < i → (getD words i 0 ≡ codeOf w → ⊥) → kindFrom words codes (i - 1) w ≡ kindFrom words codes i w
-  unfolding kindFrom
-  found-before zero pos e = absurd (omega arith)
-  found-before (suc n) pos e = rw (ne-eqb (getD words (suc n) 0) (codeOf w) e, sub-one) refl
+  pub kind-reading : j ≡ 0 → kindOr255 (lookup w readingKinds) ≡ kindFrom words codes n w
+  kind-reading h = sym (at-place ∙ rw (eq-eqb j 0 h) refl)
 
-  pub found-last : (i : ℕ) → i ≤ 0 → kindOr255 (lookup w readingKinds) ≡ kindFrom words codes i w
-  unfolding kindFrom
-  found-last zero h = refl
-  found-last (suc n) h = absurd (omega arith)
-
-pub found-from : (words codes : List ℕ) (w : Word) (i j : ℕ) → i ≡ j → kindFrom words codes i w ≡ kindFrom words codes j w
-found-from words codes w i j e = ap (λ k. kindFrom words codes k w) e
+  pub kind-there : (j ≡ 0 → ⊥) → getD codes j 0 ≡ kindFrom words codes n w
+  kind-there h = sym (at-place ∙ rw (ne-eqb j 0 h) refl)
 
 -- the search may begin at the newest place for the word's remainder
-pub kind-newest : (words codes newest : List ℕ) (n : ℕ) → Newest (λ i. getD words (suc i) 0) n newest → (w : Word) → kindFrom words codes (newestOf newest (codeOf w)) w ≡ kindFrom words codes n w
+pub kind-newest : (words codes newest : List ℕ) (n : ℕ) → Newest words n newest → (w : Word) → kindFrom words codes (newestOf newest (codeOf w)) w ≡ kindFrom words codes n w
 unfolding kindFrom
 kind-newest words codes newest n h w =
-    from-newest (λ i. getD words (suc i) 0) n newest h (codeOf w) (λ k. kindFrom words codes k w) (λ k e. rw (ne-eqb (getD words (suc k) 0) (codeOf w) e) refl)
+    from-newest words n newest h (codeOf w) (λ k. kindFrom words codes k w) (λ k e. rw (ne-eqb (getD words (suc k) 0) (codeOf w) e) refl)
 
 -- ---- one line more
 
@@ -183,11 +137,8 @@ module _ (words codes newest : List ℕ) (passed : ℕ) (ps : Known Kind) (st : 
           rw (getD-set-same words (suc n) (codeOf w) 0 (omega arith), getD-set-same codes (suc n) (kindCode k) 0 (omega arith), words-agree w v hw hv)
           (ap (when (sameWord v w) (kindCode k)) (kept words codes (suc n) (codeOf w) (kindCode k) n (omega arith) v ∙ ap (λ m. kindFrom words codes m v) en ∙ st .is v hv))
 
-  from-more : Newest (λ i. getD (set words (passed + 1) (codeOf w)) (suc i) 0) (passed + 1) (set newest (codeOf w % 512) (passed + 1))
-  from-more =
-      let e : getD (set words (passed + 1) (codeOf w)) (suc passed) 0 ≡ codeOf w = ap (λ j. getD (set words (passed + 1) (codeOf w)) j 0) (omega arith) ∙ getD-set-same words (passed + 1) (codeOf w) 0 (omega arith) in
-      subst (λ c. Newest (λ i. getD (set words (passed + 1) (codeOf w)) (suc i) 0) (passed + 1) (set newest (c % 512) (passed + 1))) e
-      (newest-more (λ i. getD words (suc i) 0) passed newest (st .from) (λ i. getD (set words (passed + 1) (codeOf w)) (suc i) 0) (λ i l. getD-set-other words (passed + 1) (suc i) (codeOf w) 0 (λ q. omega arith)))
+  from-more : Newest (set words (passed + 1) (codeOf w)) (passed + 1) (set newest (codeOf w % 512) (passed + 1))
+  from-more = newest-more words passed newest (st .from) (omega arith) (codeOf w)
 
   -- a let gives the word
   pub stands-given : Stands (set words (passed + 1) (codeOf w)) (set codes (passed + 1) (kindCode k)) (set newest (codeOf w % 512) (passed + 1)) (passed + 1) ((w, k) ∷ ps)

@@ -32,7 +32,7 @@ use Rattle.sheets.proofs.Walks.{Step, walk-end, walk-line}
 use Rattle.sheets.proofs.TextBound.{line-length, word-length}
 use Rattle.sheets.proofs.LineText.{line-laid}
 use Rattle.sheets.specs.code.Operands.{Ready}
-use Rattle.sheets.specs.code.Running.{orFound, slotFound, readingFound, Tabled, NextLine, letEffect, showEffect, EffectOf, EffectWith, Runs}
+use Rattle.sheets.specs.code.Running.{wordFound, Tabled, NextLine, letEffect, showEffect, EffectOf, EffectWith, Runs}
 use Rattle.sheets.specs.declared.effects.Effect.{Effect}
 use Rattle.sheets.proofs.LinePlaces.{let-places, space-late}
 use Rattle.sheets.proofs.OperandLaws.{Upto, upto-ready}
@@ -158,7 +158,7 @@ module _ (s : List ℕ) (e : Ellipsoid) (rs : List Float) (d : List ℕ) (at num
       }
 
   module _ (low : 2 ≤ number) (high : number ≤ 96) (h : at < length s) (to : ℕ) (ht : NextLine s at to) (ks : List ℕ) (fs : List (List Float))
-      (m : ℕ) (hm : length (part s at to) ≤ m) (u : Upto (part s at to) ks fs (λ c. orFound (slotFound n t c) (readingFound c rs)) m)
+      (m : ℕ) (hm : length (part s at to) ≤ m) (u : Upto (part s at to) ks fs (wordFound t rs n) m)
       (x : Effect) (hx : EffectWith (part s at to) e ks fs x) where
     -- the line at this place does this to the machine's state
     line-is : (ls : List Line) (left p : ℕ) (el : readLines left number p s at ≡ formed ls) → (st : State) → st .ellipsoid ≡ e → Tabled (st .known) t n rs
@@ -201,8 +201,8 @@ module _ (s : List ℕ) (e : Ellipsoid) (rs : List Float) (d : List ℕ) (at num
     unfolding steps
     stuck-here hs st ls y ys i es un = rw (i, es) at un
 
-    pub runs-gives : (k : ℕ) (v : Value) → x ≡ Effect.Gives k v → n < length t → (y : Slot) → y ≡ record { word = k; value = v } → (q : RunAnswer) (out′ : List ℕ)
-        → Runs s e rs d to (number + 1) (set t n y) (n + 1) written out q out′ → Runs s e rs d at number t n written out q out′
+    pub runs-gives : (k : ℕ) (v : Value) → x ≡ Effect.Gives k v → n + 1 < length t → (y : Slot) → y ≡ record { word = k; value = v } → (q : RunAnswer) (out′ : List ℕ)
+        → Runs s e rs d to (number + 1) (set t (n + 1) y) (n + 1) written out q out′ → Runs s e rs d at number t n written out q out′
     runs-gives k v ex ln y ey q out′ hr = record {
       is = λ ed ls left p el cl st ee tb ew bound eo un.
           let (sp, j, ej, en, ef) = line-is ls left p el st ee tb in
@@ -218,7 +218,7 @@ module _ (s : List ℕ) (e : Ellipsoid) (rs : List Float) (d : List ℕ) (at num
         given ed ls left p el cl st ee tb ew bound eo un sp en w hs iw ek false es =
             onwards q out′ ls (hs ++ []) st _ (sp .line) (sp .rest) (sp .all) es un (λ un′.
             hr .is ed (sp .rest) (sp .fewer) _ (subst (λ z. readLines (sp .fewer) (number + 1) (afterPhase p (sp .line)) s z ≡ formed (sp .rest)) en (sp .goes-on)) (omega (arith, sp .one-less, cl)) _ ee
-            (subst (λ z. Tabled ((w, v) ∷ st .known) (set t n y) z rs) (omega arith) (tabled-let (st .known) t n rs tb ln w iw v y (ap (λ (z : Slot). z .word) ey ∙ ek) (ap (λ (z : Slot). z .value) ey))) ew (omega arith) eo un′)
+            (subst (λ z. Tabled ((w, v) ∷ st .known) (set t z y) z rs) (omega arith) (tabled-let (st .known) t n rs tb (omega arith) w iw v y (ap (λ (z : Slot). z .word) ey ∙ ek) (ap (λ (z : Slot). z .value) ey))) ew (omega arith) eo un′)
 
     pub runs-shows : (m : ℕ) (v : Value) → x ≡ Effect.Shows m v → (out₂ : List ℕ) (written₂ : ℕ) → Written out written (lineIf (room (part s at to) 6 m out written) (part s at to) 6 m v) out₂ written₂ → (q : RunAnswer) (out′ : List ℕ)
         → Runs s e rs d to (number + 1) t n written₂ out₂ q out′ → Runs s e rs d at number t n written out q out′

@@ -6,7 +6,7 @@ use crate::bytes::WordRead;
 use crate::bytes::byte;
 use crate::bytes::word;
 use crate::kinds::kind_of_row;
-use crate::newest::newest_of;
+use crate::newest::word_place;
 use crate::num::NumRead;
 use crate::num::num;
 ghost use Rattle.sheets.specs.code.Walking.{ReadingKind, FoundKind, ForKnown, LeafHas, ExprHas, ArgsHave};
@@ -46,17 +46,11 @@ fn reading_kind(code: u64) -> u8
 pub fn find_kind(words: &[u64; 96], codes: &[u8; 96], newest: &[u8; 512], code: u64) -> u8
     ensures { λ r. ⌜ FoundKind (now (words .entry)) (now (codes .entry)) (now (newest .entry)) code r ⌝ }
 {
-    let mut i = newest_of(newest, code);
-    if 95 < i {
-        return 255;
+    let i = word_place(words, newest, code);
+    if i == 0 {
+        return reading_kind(code);
     }
-    while 0 < i {
-        if words[i] == code {
-            return codes[i];
-        }
-        i -= 1;
-    }
-    reading_kind(code)
+    codes[i]
 }
 
 // The kind of the word or the number at a place.

@@ -6,8 +6,8 @@ use crate::effects::Effect;
 use crate::effects::line_effect;
 use crate::effects::next_line;
 use crate::lines::word_slot;
-use crate::newest::newest_of;
 use crate::newest::put_newest;
+use crate::newest::word_place;
 use crate::operands::Found;
 use crate::operands::put_found;
 use crate::text::output_line;
@@ -16,9 +16,11 @@ use crate::value::Value;
 use crate::value::no_names;
 use frames::ellipsoid::Ellipsoid;
 ghost use mathlib.Core.Path.{_≡_};
+ghost use lib.Dec.{eqb};
+ghost use Rattle.sheets.specs.Table.{when};
 ghost use Rattle.sheets.specs.code.Slots.{noNames};
 ghost use Rattle.sheets.specs.declared.operands.Found.{Found};
-ghost use Rattle.sheets.specs.code.Running.{readingIndex, readingFound, orFound, Runs};
+ghost use Rattle.sheets.specs.code.Running.{readingIndex, readingFound, Runs};
 
 // The number of the reading whose word has this code; 16 for none.
 fn reading_index(code: u64) -> usize
@@ -45,14 +47,6 @@ fn reading_index(code: u64) -> usize
     }
 }
 
-// What a slot holds.
-fn held(x: Slot) -> Found
-    ensures { λ r. ⌜ r ≡ Found.Value (x .value) ⌝ }
-{
-    let v = x.value;
-    Found::Value(v)
-}
-
 // A reading by its word's code.
 fn reading(code: u64, readings: &[f64]) -> Found
     ensures { λ r. ⌜ r ≡ readingFound code (now (readings .entry)) ⌝ }
@@ -67,18 +61,20 @@ fn reading(code: u64, readings: &[f64]) -> Found
     Found::Value(Value::Number(0.0))
 }
 
-// What was found in the table, or else a reading.
-fn or_reading(found: Found, code: u64, readings: &[f64]) -> Found
-    ensures { λ r. ⌜ r ≡ orFound found (readingFound code (now (readings .entry))) ⌝ }
+// What the slot x at the place j holds, or the reading with this code where no word was found: j is then 0.
+fn slot_or_reading(j: usize, x: Slot, code: u64, readings: &[f64]) -> Found
+    ensures { λ r. ⌜ r ≡ when (eqb j 0) (readingFound code (now (readings .entry))) (Found.Value (x .value)) ⌝ }
 {
-    match found {
-        Found::Value(v) => Found::Value(v),
-        Found::Unknown => reading(code, readings),
+    if j == 0 {
+        return reading(code, readings);
     }
+    let v = x.value;
+    Found::Value(v)
 }
 
 // The lines from line 2, which stands at `start`. An admitted sheet never sticks, so what is answered then does not matter.
-// The table of names stays here: it is read where a line's words are looked up, and a let stores one slot.
+// The table of names stays here: it is read where a line's words are looked up, and a let stores one slot. Slot 0 stays empty.
+// `words` has the words' codes alone, each at its slot's place, and `newest` is that of newest.rt for it.
 pub fn run_lines(
     s: &[u8],
     start: usize,
@@ -89,6 +85,7 @@ pub fn run_lines(
     ensures { λ r. ⌜ Runs (now (s .entry)) e (now (readings .entry)) (now (out .entry)) start 2 noNames 0 0 (now (out .entry)) r (now (out .exit)) ⌝ }
 {
     let mut t = no_names();
+    let mut words = [0u64; 96];
     let mut newest = [0u8; 512];
     let mut kinds = [255u8; 101];
     let zeros = [0.0; 21];
@@ -111,18 +108,9 @@ pub fn run_lines(
                 p += 1;
                 continue;
             };
-            let mut found = Found::Unknown;
-            let mut j = newest_of(&newest, code);
-            while 0 < j {
-                j -= 1;
-                let x = t[j];
-                if x.word == code {
-                    found = held(x);
-                    j = 0;
-                    continue;
-                }
-            }
-            let known = or_reading(found, code, readings);
+            let j = word_place(&words, &newest, code);
+            let x = t[j];
+            let known = slot_or_reading(j, x, code, readings);
             put_found(&mut kinds, &mut rows, (p + 1) / 2, known);
             p += 1;
         }
@@ -135,8 +123,9 @@ pub fn run_lines(
                 return run_answer(k, number, written);
             }
             Effect::Gives(word, value) => {
-                t[n] = Slot { word, value };
                 n += 1;
+                t[n] = Slot { word, value };
+                words[n] = word;
                 put_newest(&mut newest, word, n as u8);
                 at = to;
                 number += 1;

@@ -30,15 +30,6 @@ use Rattle.sheets.specs.declared.effects.Effect.{Effect}
 
 -- ---- the known words: those in the table of names, the newest first, and then the readings
 
-abbrev pub orFound : Found → Found → Found
-orFound (Found.Value v) f = Found.Value v
-orFound Found.Unknown f = f
-
--- the word with this code among the first n slots
-unfoldable pub slotFound : ℕ → List Slot → ℕ → Found
-slotFound zero t c = Found.Unknown
-slotFound (suc n) t c = when (eqb (getD t n emptySlot .word) c) (Found.Value (getD t n emptySlot .value)) (slotFound n t c)
-
 -- the place of a number in a list, the list's length where it is not there
 unfoldable pub indexIn : List ℕ → ℕ → ℕ
 indexIn [] c = 0
@@ -51,9 +42,14 @@ readingIndex c = indexIn (693 ∷ 694 ∷ 695 ∷ 696 ∷ 697 ∷ 698 ∷ 699 �
 unfoldable pub readingFound : ℕ → List Float → Found
 readingFound c rs = let i = readingIndex c in when (leb 16 i) Found.Unknown (Found.Value (Number (getD rs i (num 0))))
 
+-- the word with this code among the first n slots after slot 0, the newest first, and then the readings
+unfoldable pub wordFound : List Slot → List Float → ℕ → ℕ → Found
+wordFound t rs zero c = readingFound c rs
+wordFound t rs (suc n) c = when (eqb (getD t (suc n) emptySlot .word) c) (Found.Value (getD t (suc n) emptySlot .value)) (wordFound t rs n c)
+
 -- n slots and the readings stand for the known words ps
 pub record Tabled (ps : Known Value) (t : List Slot) (n : ℕ) (rs : List Float) : Type 0 where
-  pub is : (w : Word) → IsWord w → foundOf (lookup w ps) ≡ orFound (slotFound n t (codeOf w)) (readingFound (codeOf w) rs)
+  pub is : (w : Word) → IsWord w → foundOf (lookup w ps) ≡ wordFound t rs n (codeOf w)
 
 -- ---- a line
 

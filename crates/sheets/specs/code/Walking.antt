@@ -42,7 +42,7 @@ pub record FoundKind (words codes newest : List ℕ) (code r : ℕ) : Type 0 whe
 -- so many lines passed stand for the known words ps
 pub record Stands (words codes newest : List ℕ) (passed : ℕ) (ps : Known Kind) : Type 0 where
   pub few : passed ≤ 95
-  pub from : Newest (λ i. getD words (suc i) 0) passed newest
+  pub from : Newest words passed newest
   pub is : (w : Word) → IsWord w → kindFrom words codes passed w ≡ kindOr255 (lookup w ps)
 
 abbrev pub Standing : List ℕ → List ℕ → List ℕ → Known Kind → Type 0
