@@ -8,6 +8,7 @@ use mathlib.Core.Option.{Option, none, some}
 use lib.ListN.{length, take, set, replicate}
 use lib.Seq.{take-suc-set, length-take-le}
 use Rattle.frames.specs.declared.ellipsoid.Ellipsoid.{Ellipsoid}
+use Rattle.sheets.specs.Machine.{numbered}
 use Rattle.sheets.specs.Trees.{Line, let-line, show-line, Sheet}
 use Rattle.sheets.specs.Grammar.{IsLine, after}
 use Rattle.sheets.specs.code.Codes.{codeOf}
@@ -16,8 +17,9 @@ use Rattle.sheets.specs.code.Views.{formOf}
 use Rattle.sheets.specs.code.FirstLines.{firstIn, firstOf}
 use Rattle.sheets.specs.Kinds.{Kind, kindCode}
 use Rattle.sheets.specs.Names.{lookup, barred}
-use Rattle.sheets.specs.Refusals.{Fault, name, fault, refusalNumber}
-use Rattle.sheets.specs.Check.{Checked, fine, bad, thenᶜ, known?, kindOfExpr, Stateᶜ, giveᶜ, stepᶜ, Walked, passes, refuses, onwardᶜ, stepsᶜ, startᶜ, walk}
+use Rattle.sheets.specs.Scopes.{withName, giveIf, give}
+use Rattle.sheets.specs.Refusals.{Fault, name, fault, refusalNumber, Checked, fine, bad, thenᶜ, known?}
+use Rattle.sheets.specs.Check.{kindOfExpr, Stateᶜ, noted, stepᶜ, Walked, passes, refuses, onwardᶜ, stepsᶜ, startᶜ, walk}
 use Rattle.sheets.specs.Answers.{ranged, ofWalked, ofRange, ofForm}
 use Rattle.sheets.specs.declared.form.FormRead.{FormRead}
 use Rattle.sheets.specs.declared.first_line.FirstLine.{FirstLine}
@@ -34,26 +36,26 @@ use Rattle.sheets.proofs.PassedLaws.{stands-given, stands-shown}
 -- ---- the state after a line whose word has the kind k
 
 abbrev stepped : ℕ → Stateᶜ → Line → Kind → Stateᶜ
-stepped i s (let-line w x) k = record { known = (w, k) ∷ s .known; given = record { line = i; name = w; value = k } ∷ s .given; codes = s .codes ++ (kindCode k ∷ []) }
-stepped i s (show-line w) k = record { known = s .known; given = s .given; codes = s .codes ++ (kindCode k ∷ []) }
+stepped i s (let-line w x) k = record { scope = withName (record { line = i; name = w; value = k }) (s .scope); codes = s .codes ++ (kindCode k ∷ []) }
+stepped i s (show-line w) k = record { scope = s .scope; codes = s .codes ++ (kindCode k ∷ []) }
 
-step-is : (i : ℕ) (s : Stateᶜ) (l : Line) → stepᶜ i s l ≡ thenᶜ (lineKind l (s .known)) (λ k. fine (stepped i s l k))
+step-is : (i : ℕ) (s : Stateᶜ) (l : Line) → stepᶜ i s l ≡ thenᶜ (lineKind l (s .scope .known)) (λ k. fine (stepped i s l k))
 unfolding stepᶜ lineKind
-step-is i s (let-line w x) = go (kindOfExpr x (s .known)) (barred w (s .known))
+step-is i s (let-line w x) = go (kindOfExpr x (s .scope .known)) (barred w (s .scope .known))
   where
-    go : (o : Checked Kind) (b : Bool) → thenᶜ o (λ k. giveᶜ b i s w k) ≡ thenᶜ (thenᶜ o (λ k. unbarred b k)) (λ k. fine (stepped i s (let-line w x) k))
+    go : (o : Checked Kind) (b : Bool) → thenᶜ o (λ k. thenᶜ (giveIf b (record { line = i; name = w; value = k }) (s .scope)) (noted s (kindCode k))) ≡ thenᶜ (thenᶜ o (λ k. unbarred b k)) (λ k. fine (stepped i s (let-line w x) k))
     go (fine k) true = refl
     go (fine k) false = refl
     go (bad f) b = refl
 step-is i s (show-line w) = refl
 
-steps-fine : (l : Line) (ls : List Line) (i : ℕ) (s : Stateᶜ) (k : Kind) → lineKind l (s .known) ≡ fine k → stepsᶜ (l ∷ ls) i s ≡ stepsᶜ ls (suc i) (stepped i s l k)
+steps-fine : (l : Line) (ls : List Line) (i : ℕ) (s : Stateᶜ) (k : Kind) → lineKind l (s .scope .known) ≡ fine k → stepsᶜ (numbered i (l ∷ ls)) s ≡ stepsᶜ (numbered (suc i) ls) (stepped i s l k)
 unfolding stepsᶜ
-steps-fine l ls i s k e = ap (λ o. onwardᶜ o i (λ t. stepsᶜ ls (suc i) t)) (step-is i s l ∙ ap (λ o. thenᶜ o (λ k. fine (stepped i s l k))) e)
+steps-fine l ls i s k e = ap (λ o. onwardᶜ o i (λ t. stepsᶜ (numbered (suc i) ls) t)) (step-is i s l ∙ ap (λ o. thenᶜ o (λ k. fine (stepped i s l k))) e)
 
-steps-bad : (l : Line) (ls : List Line) (i : ℕ) (s : Stateᶜ) (f : Fault) → lineKind l (s .known) ≡ bad f → stepsᶜ (l ∷ ls) i s ≡ refuses f i
+steps-bad : (l : Line) (ls : List Line) (i : ℕ) (s : Stateᶜ) (f : Fault) → lineKind l (s .scope .known) ≡ bad f → stepsᶜ (numbered i (l ∷ ls)) s ≡ refuses f i
 unfolding stepsᶜ
-steps-bad l ls i s f e = ap (λ o. onwardᶜ o i (λ t. stepsᶜ ls (suc i) t)) (step-is i s l ∙ ap (λ o. thenᶜ o (λ k. fine (stepped i s l k))) e)
+steps-bad l ls i s f e = ap (λ o. onwardᶜ o i (λ t. stepsᶜ (numbered (suc i) ls) t)) (step-is i s l ∙ ap (λ o. thenᶜ o (λ k. fine (stepped i s l k))) e)
 
 laid-after : (codes : List ℕ) (n : ℕ) → n < length codes → (i : ℕ) (s : Stateᶜ) (l : Line) (k : Kind) → take n codes ≡ 255 ∷ s .codes
     → take (n + 1) (set codes n (kindCode k)) ≡ 255 ∷ stepped i s l k .codes
@@ -72,11 +74,11 @@ pub record Midway (s : List ℕ) (at passed : ℕ) (words codes newest : List �
   pub phase : ℕ
   pub state : Stateᶜ
   pub goes : readLines (95 - passed) (passed + 2) phase s at ≡ formed lines
-  pub rest : stepsᶜ lines (passed + 2) state ≡ o
-  pub stands : Stands words codes newest passed (state .known)
+  pub rest : stepsᶜ (numbered (passed + 2) lines) state ≡ o
+  pub stands : Stands words codes newest passed (state .scope .known)
   pub laid : take (passed + 1) codes ≡ 255 ∷ state .codes
 
-pub midway-start : (s : List ℕ) (at : ℕ) (ls : List Line) → readLines 95 2 0 s at ≡ formed ls → Midway s at 0 (replicate 96 0) (replicate 96 255) (replicate 512 0) (stepsᶜ ls 2 startᶜ)
+pub midway-start : (s : List ℕ) (at : ℕ) (ls : List Line) → readLines 95 2 0 s at ≡ formed ls → Midway s at 0 (replicate 96 0) (replicate 96 255) (replicate 512 0) (stepsᶜ (numbered 2 ls) startᶜ)
 unfolding kindFrom
 midway-start s at ls e = record { lines = ls; phase = 0; state = startᶜ; goes = e; rest = refl; stands = record { few = omega arith; from = newest-none _; is = λ w hw. refl }; laid = refl }
 
@@ -85,7 +87,7 @@ module _ (s : List ℕ) (at passed : ℕ) (words codes newest : List ℕ) (o : W
   unfolding Walks stepsᶜ
   walk-done le lc h =
       let z = walk-end s (95 - passed) (passed + 2) (m .phase) at (m .lines) (m .goes) h in
-      let e : passes (m .state .codes) ≡ o = ap (λ ls. stepsᶜ ls (passed + 2) (m .state)) (sym z) ∙ m .rest in
+      let e : passes (m .state .codes) ≡ o = ap (λ ls. stepsᶜ (numbered (passed + 2) ls) (m .state)) (sym z) ∙ m .rest in
       let n : length (255 ∷ m .state .codes) ≡ passed + 1 = ap length (sym (m .laid)) ∙ length-take-le (passed + 1) codes (omega arith) in
       subst (λ q. Walks q (record { outcome = Outcome.Passes (passed + 1); codes = codes })) e
       (ap (λ k. Outcome.Passes k) (sym n), omega arith, ap (λ k. take k codes) n ∙ m .laid)
@@ -97,30 +99,30 @@ module _ (s : List ℕ) (at passed : ℕ) (words codes newest : List ℕ) (o : W
     pub walk-over : {C : Type 0} → 95 ≤ passed → C
     walk-over l = let e = now .one-less in absurd (omega arith)
 
-    here : stepsᶜ (now .line ∷ now .rest) (passed + 2) (m .state) ≡ o
-    here = ap (λ ls. stepsᶜ ls (passed + 2) (m .state)) (sym (now .all)) ∙ m .rest
+    here : stepsᶜ (numbered (passed + 2) (now .line ∷ now .rest)) (m .state) ≡ o
+    here = ap (λ ls. stepsᶜ (numbered (passed + 2) ls) (m .state)) (sym (now .all)) ∙ m .rest
 
     -- r is what the line came to
-    module _ (r : LineKind) (hr : LineHas (readLine s at) (m .state .known) r) where
-      said : r ≡ lineSaid (lineWord (now .line)) (lineKind (now .line) (m .state .known)) (now .next)
+    module _ (r : LineKind) (hr : LineHas (readLine s at) (m .state .scope .known) r) where
+      said : r ≡ lineSaid (lineWord (now .line)) (lineKind (now .line) (m .state .scope .known)) (now .next)
       said = hr .is (now .line) (now .next) (now .stands)
 
       pub walk-fault : (number : ℕ) → r ≡ LineKind.Refused number → (a : Admission) → a .outcome ≡ Outcome.Refuses number (passed + 2) → Walks o a
       unfolding Walks lineSaid
-      walk-fault number er a ea = go (lineKind (now .line) (m .state .known)) refl said
+      walk-fault number er a ea = go (lineKind (now .line) (m .state .scope .known)) refl said
         where
-          go : (q : Checked Kind) → lineKind (now .line) (m .state .known) ≡ q → r ≡ lineSaid (lineWord (now .line)) q (now .next) → Walks o a
+          go : (q : Checked Kind) → lineKind (now .line) (m .state .scope .known) ≡ q → r ≡ lineSaid (lineWord (now .line)) q (now .next) → Walks o a
           go (fine k) eq e = let z : _≡_ {A = ℕ} 0 1 = cc in absurd (omega arith)
           go (bad f) eq e =
               let i : number ≡ refusalNumber (fault f) = cc in
               subst (λ q. Walks q a) (sym (steps-bad (now .line) (now .rest) (passed + 2) (m .state) f eq) ∙ here) (ea ∙ ap (λ k. Outcome.Refuses k (passed + 2)) i)
 
       module _ (le : passed < 95) (lw : length words ≡ 96) (lc : length codes ≡ 96) (code kind next : ℕ) (er : r ≡ LineKind.Is code kind next) where
-        stands-after : (l : Line) → IsLine l → (k : Kind) → lineKind l (m .state .known) ≡ fine k
-            → Stands (set words (passed + 1) (codeOf (lineWord l))) (set codes (passed + 1) (kindCode k)) (set newest (codeOf (lineWord l) % 512) (passed + 1)) (passed + 1) (stepped (passed + 2) (m .state) l k .known)
+        stands-after : (l : Line) → IsLine l → (k : Kind) → lineKind l (m .state .scope .known) ≡ fine k
+            → Stands (set words (passed + 1) (codeOf (lineWord l))) (set codes (passed + 1) (kindCode k)) (set newest (codeOf (lineWord l) % 512) (passed + 1)) (passed + 1) (stepped (passed + 2) (m .state) l k .scope .known)
         unfolding lineKind
-        stands-after (let-line w x) hl k e = stands-given words codes newest passed (m .state .known) (m .stands) lw lc le w (hl .0 .0) k
-        stands-after (show-line w) hl k e = stands-shown words codes newest passed (m .state .known) (m .stands) lw lc le w (hl .0) k (go (lookup w (m .state .known)) e)
+        stands-after (let-line w x) hl k e = stands-given words codes newest passed (m .state .scope .known) (m .stands) lw lc le w (hl .0 .0) k (passed + 2)
+        stands-after (show-line w) hl k e = stands-shown words codes newest passed (m .state .scope .known) (m .stands) lw lc le w (hl .0) k (go (lookup w (m .state .scope .known)) e)
           where
             go : (q : Option Kind) → known? name q ≡ fine k → q ≡ some k
             go none e = let z : _≡_ {A = ℕ} 0 1 = cc in absurd (omega arith)
@@ -133,16 +135,16 @@ module _ (s : List ℕ) (at passed : ℕ) (words codes newest : List ℕ) (o : W
             let ei : passed + 1 + 2 ≡ passed + 2 + 1 = omega arith in
             ap (λ j. readLines j (passed + 1 + 2) p s next) ef ∙ ap (λ i. readLines (now .fewer) i p s next) ei ∙ ap (readLines (now .fewer) (passed + 2 + 1) p s) (sym en) ∙ now .goes-on
 
-        rest-after : (k : Kind) → lineKind (now .line) (m .state .known) ≡ fine k → stepsᶜ (now .rest) (passed + 1 + 2) (stepped (passed + 2) (m .state) (now .line) k) ≡ o
+        rest-after : (k : Kind) → lineKind (now .line) (m .state .scope .known) ≡ fine k → stepsᶜ (numbered (passed + 1 + 2) (now .rest)) (stepped (passed + 2) (m .state) (now .line) k) ≡ o
         rest-after k e =
             let ei : passed + 1 + 2 ≡ suc (passed + 2) = omega arith in
-            ap (λ i. stepsᶜ (now .rest) i (stepped (passed + 2) (m .state) (now .line) k)) ei ∙ sym (steps-fine (now .line) (now .rest) (passed + 2) (m .state) k e) ∙ here
+            ap (λ i. stepsᶜ (numbered i (now .rest)) (stepped (passed + 2) (m .state) (now .line) k)) ei ∙ sym (steps-fine (now .line) (now .rest) (passed + 2) (m .state) k e) ∙ here
 
         pub walk-on : (later : List ℕ) → later ≡ set newest (code % 512) (passed + 1) → Midway s next (passed + 1) (set words (passed + 1) code) (set codes (passed + 1) kind) later o
         unfolding lineSaid
-        walk-on later el = go (lineKind (now .line) (m .state .known)) refl said
+        walk-on later el = go (lineKind (now .line) (m .state .scope .known)) refl said
           where
-            go : (q : Checked Kind) → lineKind (now .line) (m .state .known) ≡ q → r ≡ lineSaid (lineWord (now .line)) q (now .next)
+            go : (q : Checked Kind) → lineKind (now .line) (m .state .scope .known) ≡ q → r ≡ lineSaid (lineWord (now .line)) q (now .next)
                 → Midway s next (passed + 1) (set words (passed + 1) code) (set codes (passed + 1) kind) later o
             go (fine k) eq e =
                 let ec : codeOf (lineWord (now .line)) ≡ code = cc in

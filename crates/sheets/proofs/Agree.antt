@@ -1,72 +1,83 @@
 -- The machine and the check's walk agree: where the machine goes on, the check finds the kind of what it came to; where it sticks, the check refuses. Assumes nothing.
-use mathlib.Core.Path.{_≡_, refl, ap, sym, _∙_, subst}
-use mathlib.Core.List.{List, [], _∷_, _++_, map}
+use mathlib.Core.Path.{_≡_, refl, ap, ap₂, sym, _∙_, subst}
+use mathlib.Core.List.{List, [], _∷_, map}
 use mathlib.Core.Option.{Option, none, some}
-use mathlib.Core.Bool.{Bool, true, false, _||_}
-use Prim.Native.Nat.{ℕ, suc}
+use mathlib.Core.Bool.{Bool, true, false}
+use Prim.Native.Nat.{ℕ}
 use lib.Ieee.{Float}
 use Rattle.frames.specs.declared.ellipsoid.Ellipsoid.{Ellipsoid}
 use Rattle.frames.specs.declared.frame.LocalFrame.{LocalFrame}
 use Rattle.sheets.specs.declared.value.Value.{Value}
 use Rattle.sheets.specs.declared.value.Value.the-variants.{Number}
 use Rattle.sheets.specs.Text.{Word}
-use Rattle.sheets.specs.Trees.{Num, Expr, Exprs, word-expr, num-expr, form-expr, nil, _▸_, Line, let-line, show-line}
+use Rattle.sheets.specs.Trees.{Expr, Exprs, word-expr, num-expr, form-expr, nil, _▸_, Line, let-line, show-line}
 use Rattle.sheets.specs.Kinds.{Kind, number, kindOf, kindCode}
 use Rattle.sheets.specs.Letters.{Holds, hold, orientations}
 use Rattle.sheets.specs.Table.{Row, on, when, table}
-use Rattle.sheets.specs.Lookup.{sameWord, opens, Hit, hit, find, findKind, shared}
-use Rattle.sheets.specs.Names.{Known, orElse, lookup, knows, barred, readingWords}
+use Rattle.sheets.specs.Lookup.{sameWord, Hit, hit, find, findKind, shared}
+use Rattle.sheets.specs.Names.{Given, Known, lookup, readingWords}
+use Rattle.sheets.specs.Scopes.{Scope, opened, give}
 use Rattle.sheets.specs.Limits.{numValue, inLimit}
-use Rattle.sheets.specs.Refusals.{Fault, name, kind}
-use Rattle.sheets.specs.Machine.{Out, goes, stops, sticks, after, then, test, met, meet, made, result, provided, applyRow, eval, evals, Given, State, give, write, step, readings}
-use Rattle.sheets.specs.Check.{Checked, fine, bad, thenᶜ, known?, kindOfExpr, kindsOfExprs, Stateᶜ, giveᶜ, stepᶜ}
-use Rattle.sheets.proofs.FindKind.{lead, given, mapped, find-kind}
+use Rattle.sheets.specs.Refusals.{Fault, name, kind, Checked, fine, bad, thenᶜ, known?}
+use Rattle.sheets.specs.Machine.{Out, goes, stops, sticks, after, then, orSticks, test, meet, made, result, provided, applyRow, eval, evals, State, rescoped, write, step, readings}
+use Rattle.sheets.specs.Check.{kindOfExpr, kindsOfExprs, Stateᶜ, noted, stepᶜ, readingKinds}
 use Rattle.sheets.specs.Claim.{All}
+use Rattle.sheets.proofs.FindKind.{given, mapped, find-kind}
 use Rattle.sheets.proofs.Kept.{Kept, kept}
+use Rattle.sheets.proofs.Alike.{Each₂, Both?, Match, KnownLike, ScopeLike, lookup-like, give-like}
 
--- what the machine came to and what the check found, where h is the check's view of a result
-abbrev pub Agree : {A B : Type 0} → (A → B) → Out A → Checked B → Type 0
-Agree h (goes fs x) c = c ≡ fine (h x)
-Agree h (stops fs r) c = Unit {0}
-Agree h (sticks fs) c = (r : Fault) × (c ≡ bad r)
+-- what the machine came to and what the check found, where R holds of a result and what the check sees of it
+abbrev pub Agree : {A B : Type 0} → (A → B → Type 0) → Out A → Checked B → Type 0
+Agree {B = B} R (goes fs x) c = (y : B) × (c ≡ fine y) × R x y
+Agree R (stops fs r) c = Unit {0}
+Agree R (sticks fs) c = (f : Fault) × (c ≡ bad f)
 
-agree-after : {A B : Type 0} (h : A → B) (fs : List LocalFrame) (o : Out A) (c : Checked B) → Agree h o c → Agree h (after fs o) c
-agree-after h fs (goes hs x) c p = p
-agree-after h fs (stops hs r) c p = p
-agree-after h fs (sticks hs) c p = p
+agree-after : {A B : Type 0} (R : A → B → Type 0) (fs : List LocalFrame) (o : Out A) (c : Checked B) → Agree R o c → Agree R (after fs o) c
+agree-after R fs (goes hs x) c p = p
+agree-after R fs (stops hs r) c p = p
+agree-after R fs (sticks hs) c p = p
 
 -- one step after another
-agree-then : {A B C D : Type 0} (h : A → B) (i : C → D) (o : Out A) (c : Checked B) (k : A → Out C) (q : B → Checked D)
-    → Agree h o c → ((x : A) → Agree i (k x) (q (h x))) → Agree i (then o k) (thenᶜ c q)
-agree-then h i (goes fs x) c k q p t = agree-after i fs (k x) (thenᶜ c q) (subst (λ z. Agree i (k x) (thenᶜ z q)) (sym p) (t x))
-agree-then h i (stops fs r) c k q p t = tt
-agree-then h i (sticks fs) c k q p t = (p .0, ap (λ z. thenᶜ z q) (p .1))
+agree-then : {A B C D : Type 0} (R : A → B → Type 0) (S : C → D → Type 0) (o : Out A) (c : Checked B) (k : A → Out C) (q : B → Checked D)
+    → Agree R o c → ((x : A) (y : B) → R x y → Agree S (k x) (q y)) → Agree S (then o k) (thenᶜ c q)
+agree-then R S (goes fs x) c k q p t = agree-after S fs (k x) (thenᶜ c q) (subst (λ z. Agree S (k x) (thenᶜ z q)) (sym (p .1)) (t x (p .0) (p .2)))
+agree-then R S (stops fs r) c k q p t = tt
+agree-then R S (sticks fs) c k q p t = (p .0, ap (λ z. thenᶜ z q) (p .1))
+
+-- the check sees the value's kind
+abbrev pub Sees : Value → Kind → Type 0
+Sees x k = kindOf x ≡ k
+
+-- a test that the check does not make
+agree-test : (fs : List LocalFrame) (b : Bool) (x : Value) (k : Kind) → kindOf x ≡ k → Agree Sees (test fs b x) (fine k)
+agree-test fs true x k r = (k, refl, r)
+agree-test fs false x k r = tt
+
+-- where the machine sticks by the check's own test
+agree-sticks : {A B : Type 0} (R : A → B → Type 0) (c : Checked A) (d : Checked B) → Match R c d → Agree R (orSticks c) d
+agree-sticks R (fine x) (fine y) r = (y, refl, r)
+agree-sticks R (fine x) (bad g) r = absurd r
+agree-sticks R (bad f) (fine y) r = absurd r
+agree-sticks R (bad f) (bad g) r = (g, refl)
 
 -- ---- expressions
 
-abbrev pub kindsOf : Known Value → Known Kind
-kindsOf = map (λ p. (p .0, kindOf (p .1)))
+kinds-seen : (xs : List Value) (ks : List Kind) → Each₂ Sees xs ks → map kindOf xs ≡ ks
+kinds-seen [] [] r = refl
+kinds-seen [] (k ∷ ks) r = absurd r
+kinds-seen (x ∷ xs) [] r = absurd r
+kinds-seen (x ∷ xs) (k ∷ ks) r = ap₂ (λ j js. j ∷ js) (r .0) (kinds-seen xs ks (r .1))
 
-agree-test : (fs : List LocalFrame) (b : Bool) (x : Value) (c : Checked Kind) → c ≡ fine (kindOf x) → Agree kindOf (test fs b x) c
-agree-test fs true x c p = p
-agree-test fs false x c p = tt
+agree-meet : (o : Option Value) (p : Option Kind) → Both? Sees o p → Agree Sees (meet o) (known? name p)
+agree-meet none none r = (name, refl)
+agree-meet none (some k) r = absurd r
+agree-meet (some x) none r = absurd r
+agree-meet (some x) (some k) r = agree-test [] (inLimit x) x k r
 
-lookup-kinds : (w : Word) (ps : Known Value) → lookup w (kindsOf ps) ≡ mapped kindOf (lookup w ps)
-lookup-kinds w [] = refl
-lookup-kinds w (p ∷ ps) = go (sameWord w (p .0)) (lookup w ps) (lookup w (kindsOf ps)) (lookup-kinds w ps)
-  where
-    go : (b : Bool) (o : Option Value) (q : Option Kind) → q ≡ mapped kindOf o → orElse b (kindOf (p .1)) q ≡ mapped kindOf (orElse b (p .1) o)
-    go true o q e = refl
-    go false o q e = e
+agree-word : (w : Word) (ps : Known Value) (ks : Known Kind) → KnownLike Sees ps ks → Agree Sees (meet (lookup w ps)) (known? name (lookup w ks))
+agree-word w ps ks l = agree-meet (lookup w ps) (lookup w ks) (lookup-like Sees w ps ks l)
 
-agree-meet : (o : Option Value) → Agree kindOf (meet o) (known? name (mapped kindOf o))
-agree-meet none = (name, refl)
-agree-meet (some x) = agree-test [] (inLimit x) x _ refl
-
-agree-word : (w : Word) (ps : Known Value) → Agree kindOf (meet (lookup w ps)) (known? name (lookup w (kindsOf ps)))
-agree-word w ps = subst (λ o. Agree kindOf (meet (lookup w ps)) (known? name o)) (sym (lookup-kinds w ps)) (agree-meet (lookup w ps))
-
-agree-provided : (b : Bool) (k : Unit {0} → Out Value) (c : Checked Kind) → Agree kindOf (k tt) c → Agree kindOf (provided b k) c
+agree-provided : (b : Bool) (k : Unit {0} → Out Value) (c : Checked Kind) → Agree Sees (k tt) c → Agree Sees (provided b k) c
 agree-provided true k c p = p
 agree-provided false k c p = tt
 
@@ -89,72 +100,54 @@ unfolding find
 kept-find [] w vs k = tt
 kept-find (r ∷ rs) w vs k = kept-hit r (sameWord w (r .word)) (hold (r .takes) vs) (find rs w vs) (k .0) (kept-find rs w vs (k .1))
 
-agree-row : (e : Ellipsoid) (o : Option Hit) → KeptHit o → Agree kindOf (applyRow e o) (known? kind (mapped given o))
+agree-row : (e : Ellipsoid) (o : Option Hit) → KeptHit o → Agree Sees (applyRow e o) (known? kind (mapped given o))
 agree-row e none k = (kind, refl)
 agree-row e (some h) k =
     let r = h .row in
     let x = on (r .takes) (r .apply e) (h .args) in
-    agree-provided (on (r .takes) (r .centred e) (h .args)) (λ u. result x) (fine (given h)) (agree-test (made x) (inLimit x) x (fine (given h)) (ap fine (sym (k e (h .args)))))
+    agree-provided (on (r .takes) (r .centred e) (h .args)) (λ u. result x) (fine (given h)) (agree-test (made x) (inLimit x) x (given h) (k e (h .args)))
 
 mutual
   unfolding eval kindOfExpr
 
-  pub agree-eval : (x : Expr) (e : Ellipsoid) (ps : Known Value) → Agree kindOf (eval x e ps) (kindOfExpr x (kindsOf ps))
-  agree-eval (word-expr w) e ps = agree-word w ps
-  agree-eval (num-expr q) e ps = agree-test [] (inLimit (Number (numValue q))) (Number (numValue q)) _ refl
-  agree-eval (form-expr w xs) e ps =
-      agree-then (map kindOf) kindOf (evals xs e ps) (kindsOfExprs xs (kindsOf ps)) _ _ (agree-evals xs e ps)
-      (λ vs. subst (λ o. Agree kindOf (applyRow e (find table w vs)) (known? kind o)) (find-kind table w vs) (agree-row e (find table w vs) (kept-find table w vs kept)))
+  pub agree-eval : (x : Expr) (e : Ellipsoid) (ps : Known Value) (ks : Known Kind) → KnownLike Sees ps ks → Agree Sees (eval x e ps) (kindOfExpr x ks)
+  agree-eval (word-expr w) e ps ks l = agree-word w ps ks l
+  agree-eval (num-expr q) e ps ks l = agree-test [] (inLimit (Number (numValue q))) (Number (numValue q)) number refl
+  agree-eval (form-expr w xs) e ps ks l =
+      agree-then (Each₂ Sees) Sees (evals xs e ps) (kindsOfExprs xs ks) _ _ (agree-evals xs e ps ks l)
+      (λ vs js r. subst (λ o. Agree Sees (applyRow e (find table w vs)) (known? kind o)) (find-kind table w vs ∙ ap (findKind table w) (kinds-seen vs js r)) (agree-row e (find table w vs) (kept-find table w vs kept)))
 
-  pub agree-evals : (xs : Exprs) (e : Ellipsoid) (ps : Known Value) → Agree (map kindOf) (evals xs e ps) (kindsOfExprs xs (kindsOf ps))
-  agree-evals nil e ps = refl
-  agree-evals (x ▸ xs) e ps =
-      agree-then kindOf (map kindOf) (eval x e ps) (kindOfExpr x (kindsOf ps)) _ _ (agree-eval x e ps)
-      (λ y. agree-then (map kindOf) (map kindOf) (evals xs e ps) (kindsOfExprs xs (kindsOf ps)) _ _ (agree-evals xs e ps) (λ ys. refl))
+  pub agree-evals : (xs : Exprs) (e : Ellipsoid) (ps : Known Value) (ks : Known Kind) → KnownLike Sees ps ks → Agree (Each₂ Sees) (evals xs e ps) (kindsOfExprs xs ks)
+  agree-evals nil e ps ks l = ([], refl, tt)
+  agree-evals (x ▸ xs) e ps ks l =
+      agree-then Sees (Each₂ Sees) (eval x e ps) (kindOfExpr x ks) _ _ (agree-eval x e ps ks l) (λ y j p.
+      agree-then (Each₂ Sees) (Each₂ Sees) (evals xs e ps) (kindsOfExprs xs ks) _ _ (agree-evals xs e ps ks l) (λ ys js r. (j ∷ js, refl, (p, r))))
 
 -- ---- lines
 
-abbrev pub givenKind : Given Value → Given Kind
-givenKind g = record { line = g .line; name = g .name; value = kindOf (g .value) }
+-- the check's state is alike
+abbrev pub View : State → Stateᶜ → Type 0
+View s c = ScopeLike Sees (s .scope) (c .scope)
 
-abbrev pub codeOfValue : Value → ℕ
-codeOfValue x = kindCode (kindOf x)
+-- a scope that both come to
+agree-scope : (s : State) (n : ℕ) (c : Stateᶜ) (o : Checked (Scope Value)) (p : Checked (Scope Kind)) → Match (ScopeLike Sees) o p → Agree View (then (orSticks o) (rescoped s)) (thenᶜ p (noted c n))
+agree-scope s n c o p r = agree-then (ScopeLike Sees) View (orSticks o) p _ _ (agree-sticks (ScopeLike Sees) o p r) (λ x y l. (record { scope = y; codes = _ }, refl, l))
 
--- the check's view of a state
-abbrev pub view : State → Stateᶜ
-view s = record { known = kindsOf (s .known); given = map givenKind (s .given); codes = map codeOfValue (s .values) }
-
-map-last : (xs : List Value) (x : Value) → map codeOfValue xs ++ (codeOfValue x ∷ []) ≡ map codeOfValue (xs ++ (x ∷ []))
-map-last [] x = refl
-map-last (y ∷ ys) x = ap (λ ks. codeOfValue y ∷ ks) (map-last ys x)
-
-knows-kinds : (w : Word) (ps : Known Value) → knows w (kindsOf ps) ≡ knows w ps
-knows-kinds w [] = refl
-knows-kinds w (p ∷ ps) = ap (λ b. sameWord w (p .0) || b) (knows-kinds w ps)
-
-barred-kinds : (w : Word) (ps : Known Value) → barred w ps ≡ barred w (kindsOf ps)
-barred-kinds w ps = ap (λ b. opens table w || b) (sym (knows-kinds w ps))
-
-agree-give : (b : Bool) (i : ℕ) (s : State) (w : Word) (x : Value) → Agree view (give b i s w x) (giveᶜ b i (view s) w (kindOf x))
-agree-give true i s w x = (name, refl)
-agree-give false i s w x =
-    ap (λ cs. fine (record {
-      known = (w, kindOf x) ∷ kindsOf (s .known);
-      given = record { line = i; name = w; value = kindOf x } ∷ map givenKind (s .given);
-      codes = cs;
-    })) (map-last (s .values) x)
-
-pub agree-step : (i : ℕ) (s : State) (x : Line) → Agree view (step i s x) (stepᶜ i (view s) x)
+pub agree-step : (i : ℕ) (s : State) (c : Stateᶜ) (x : Line) → View s c → Agree View (step i s x) (stepᶜ i c x)
 unfolding step stepᶜ
-agree-step i s (let-line w x) =
-    agree-then kindOf view (eval x (s .ellipsoid) (s .known)) (kindOfExpr x (kindsOf (s .known))) _ _ (agree-eval x (s .ellipsoid) (s .known))
-    (λ y. subst (λ b. Agree view (give (barred w (s .known)) i s w y) (giveᶜ b i (view s) w (kindOf y))) (barred-kinds w (s .known)) (agree-give (barred w (s .known)) i s w y))
-agree-step i s (show-line w) =
-    agree-then kindOf view (meet (lookup w (s .known))) (known? name (lookup w (kindsOf (s .known)))) _ _ (agree-word w (s .known))
-    (λ y. ap (λ cs. fine (record { known = kindsOf (s .known); given = map givenKind (s .given); codes = cs })) (map-last (s .values) y))
+agree-step i s c (let-line w x) l =
+    agree-then Sees View (eval x (s .ellipsoid) (s .scope .known)) (kindOfExpr x (c .scope .known)) _ _ (agree-eval x (s .ellipsoid) (s .scope .known) (c .scope .known) (l .known-like)) (λ y k r.
+    let g : Given Value = record { line = i; name = w; value = y } in
+    let h : Given Kind = record { line = i; name = w; value = k } in
+    agree-scope s (kindCode k) c (give g (s .scope)) (give h (c .scope)) (give-like Sees g h (s .scope) (c .scope) (refl, refl, r) l))
+agree-step i s c (show-line w) l =
+    agree-then Sees View (meet (lookup w (s .scope .known))) (known? name (lookup w (c .scope .known))) _ _ (agree-word w (s .scope .known) (c .scope .known) (l .known-like)) (λ y k r. (_, refl, l))
 
 -- a reading is n
-pub readings-kinds : (ws : List Word) (rs : List Float) → kindsOf (readings ws rs) ≡ map (λ w. (w, number)) ws
-readings-kinds [] rs = refl
-readings-kinds (w ∷ ws) [] = ap (λ ks. (w, number) ∷ ks) (readings-kinds ws [])
-readings-kinds (w ∷ ws) (r ∷ rs) = ap (λ ks. (w, number) ∷ ks) (readings-kinds ws rs)
+readings-seen : (ws : List Word) (rs : List Float) → KnownLike Sees (readings ws rs) (map (λ w. record { line = 0; name = w; value = number }) ws)
+readings-seen [] rs = tt
+readings-seen (w ∷ ws) [] = ((refl, refl, refl), readings-seen ws [])
+readings-seen (w ∷ ws) (r ∷ rs) = ((refl, refl, refl), readings-seen ws rs)
+
+pub start-seen : (rs : List Float) → ScopeLike Sees (opened (readings readingWords rs)) (opened readingKinds)
+start-seen rs = record { known-like = readings-seen readingWords rs; given-like = tt }

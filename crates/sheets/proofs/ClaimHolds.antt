@@ -19,14 +19,16 @@ use Rattle.sheets.specs.declared.value.Value.{Value}
 use Rattle.sheets.specs.Trees.{Sheet}
 use Rattle.sheets.specs.Grammar.{Written}
 use Rattle.sheets.specs.code.Reader.{Form, formed, badLine, readSheet}
+use Rattle.sheets.specs.Names.{Given}
 use Rattle.sheets.specs.Kinds.{Kind, kindOf, kindCode}
 use Rattle.sheets.specs.Refusals.{Fault, name, kind, Stop, limit, centre, Refusal, size, lent, form, ellipsoid, fault, stop, refusalNumber}
-use Rattle.sheets.specs.Machine.{Given, State, Ran, done, stopped, stuck, machine}
+use Rattle.sheets.specs.Machine.{State, Ran, done, stopped, stuck, machine}
 use Rattle.sheets.specs.Check.{Walked, passes, refuses, readingKinds, walk}
 use Rattle.sheets.specs.Admitted.{LinesFit}
 use Rattle.sheets.specs.Answers.{sized, ranged, Verdict, admitted, refused, ofWalked, ofRange, ofForm, ofLent, ofSize, verdict, CheckAnswer, checkOf, laid, kindsOfVerdict, lentKinds, checkAnswer, kindsAfter, RunAnswer, ranAnswer, ranText, runOf, textOf, lentRun, runAnswer, outAfter}
 use Rattle.sheets.specs.Claim.{Admits, Unstuck, namesGiven, framesMade, All, SticksAt, FiniteVec3, FiniteMat33, FrameHolds, Claim}
-use Rattle.sheets.proofs.Agree.{view, givenKind, codeOfValue}
+use Rattle.sheets.proofs.Alike.{KnownLike}
+use Rattle.sheets.proofs.Agree.{Sees}
 use Rattle.sheets.proofs.Sound.{OnLine, Later, AgreeRan, agree, all-later}
 use Rattle.sheets.proofs.LinesExact.{walk-passes, walk-admits}
 use Rattle.sheets.proofs.EveryFrame.{every-frame}
@@ -80,29 +82,32 @@ unstuck (stopped fs x i s) o ds p e = tt
 unstuck (stuck fs i s) o ds p e = let h = p .1 in let z : _≡_ {A = ℕ} 0 1 = cc in absurd (omega arith)
 
 -- each name's code stands on its line
-listed : (r : Ran) (o : Walked) (ds : List ℕ) → AgreeRan r o → o ≡ passes ds → All (OnLine ds) (map givenKind (namesGiven r))
-listed (done fs s) o ds p e =
-    let h = p .0 in
-    let d : map codeOfValue (s .values) ≡ ds = cc in
-    subst (λ (cs : List ℕ). All (OnLine cs) (map givenKind (s .given))) d (p .1)
-listed (stopped fs x i s) o ds p e =
-    let l = subst (Later i (view s)) e (p .0) in
-    subst (λ (cs : List ℕ). All (OnLine cs) (map givenKind (s .given))) (sym (l .1)) (all-later (map codeOfValue (s .values)) (l .0) (map givenKind (s .given)) (p .1))
-listed (stuck fs i s) o ds p e = let h = p .1 in let z : _≡_ {A = ℕ} 0 1 = cc in absurd (omega arith)
-
 abbrev Coded : List ℕ → Given Value → Type 0
 Coded ks g = getD ks (g .line - 1) 0 ≡ kindCode (kindOf (g .value))
 
-coded : (ds t : List ℕ) (g : Given Value) → OnLine ds (givenKind g) → Coded (255 ∷ (ds ++ t)) g
-coded ds t g h =
-    let a = h .0 in
-    let b = h .1 in
-    let e : g .line - 1 ≡ suc (g .line - 2) = omega arith in
-    ap (λ (k : ℕ). getD (255 ∷ (ds ++ t)) k 0) e ∙ List·getD-append ds t 0 (g .line - 2) (omega arith) ∙ h .2
+coded : (ds t : List ℕ) (gs : List (Given Value)) (hs : List (Given Kind)) → KnownLike Sees gs hs → All (OnLine ds) hs → All (Coded (255 ∷ (ds ++ t))) gs
+coded ds t [] [] l h = tt
+coded ds t [] (k ∷ hs) l h = absurd l
+coded ds t (g ∷ gs) [] l h = absurd l
+coded ds t (g ∷ gs) (k ∷ hs) l h =
+    let a = h .0 .0 in
+    let b = h .0 .1 in
+    let m = l .0 .0 in
+    let e : g .line - 1 ≡ suc (k .line - 2) = omega arith in (
+      ap (λ (j : ℕ). getD (255 ∷ (ds ++ t)) j 0) e ∙ List·getD-append ds t 0 (k .line - 2) (omega arith) ∙ h .0 .2 ∙ ap kindCode (sym (l .0 .2)),
+      coded ds t gs hs (l .1) (h .1),
+    )
 
-all-coded : (ds t : List ℕ) (gs : List (Given Value)) → All (OnLine ds) (map givenKind gs) → All (Coded (255 ∷ (ds ++ t))) gs
-all-coded ds t [] h = tt
-all-coded ds t (g ∷ gs) h = (coded ds t g (h .0), all-coded ds t gs (h .1))
+listed : (r : Ran) (o : Walked) (ds t : List ℕ) → AgreeRan r o → o ≡ passes ds → All (Coded (255 ∷ (ds ++ t))) (namesGiven r)
+listed (done fs u) o ds t p e =
+    let h = p .2 in
+    let d : p .0 .codes ≡ ds = cc in
+    subst (λ (cs : List ℕ). All (Coded (255 ∷ (cs ++ t))) (u .scope .given)) d (coded (p .0 .codes) t (u .scope .given) (p .0 .scope .given) (p .1 .given-like) (p .3))
+listed (stopped fs x i u) o ds t p e =
+    let l = subst (Later i (p .0)) e (p .2) in
+    subst (λ (cs : List ℕ). All (Coded (255 ∷ (cs ++ t))) (u .scope .given)) (sym (l .1))
+    (coded (p .0 .codes ++ l .0) t (u .scope .given) (p .0 .scope .given) (p .1 .given-like) (all-later (p .0 .codes) (l .0) (p .0 .scope .given) (p .3)))
+listed (stuck fs i u) o ds t p e = let h = p .1 in let z : _≡_ {A = ℕ} 0 1 = cc in absurd (omega arith)
 
 -- ---- frames
 
@@ -129,8 +134,8 @@ holds (f ∷ fs) h = (
 -- ---- a sheet refused for a name or a kind
 
 sticks-at : (r : Ran) (o : Walked) (f : Fault) (j : ℕ) → AgreeRan r o → o ≡ refuses f j → SticksAt j r
-sticks-at (done fs s) o f j p e = let h = p .0 in let z : _≡_ {A = ℕ} 0 1 = cc in absurd (omega arith)
-sticks-at (stopped fs x i s) o f j p e = subst (Later i (view s)) e (p .0)
+sticks-at (done fs s) o f j p e = let h = p .2 in let z : _≡_ {A = ℕ} 0 1 = cc in absurd (omega arith)
+sticks-at (stopped fs x i s) o f j p e = subst (Later i (p .0)) e (p .2)
 sticks-at (stuck fs i s) o f j p e = let h = p .1 in cc
 
 fault-number : (r : Refusal) (f : Fault) → refusalNumber r ≡ refusalNumber (fault f) → r ≡ fault f
@@ -216,7 +221,7 @@ module _ (S : List ℕ) (R : List Float) (kinds out : List ℕ) (k : length kind
 
     named : All (Coded (kindsAfter S kinds)) (namesGiven (machine c R))
     named = subst (λ (ks : List ℕ). All (Coded ks) (namesGiven (machine c R))) (sym written-codes)
-        (all-coded codes (drop (length (255 ∷ codes)) kinds) (namesGiven (machine c R)) (listed (machine c R) (walk c) codes (agree c R) walked))
+        (listed (machine c R) (walk c) codes (drop (length (255 ∷ codes)) kinds) (agree c R) walked)
 
   pub claim : Claim S R kinds (checkAnswer S kinds) (kindsAfter S kinds) out (runAnswer S R out) (outAfter S R out)
   claim = record {

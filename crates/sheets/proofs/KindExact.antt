@@ -14,9 +14,8 @@ use Rattle.sheets.specs.Kinds.{Kind, number, angle, len, geocentric, geo
 use Rattle.sheets.specs.Table.{when, table}
 use Rattle.sheets.specs.Lookup.{sameWord, opens, KindRow, kindRows, search, findKind}
 use Rattle.sheets.specs.Names.{Known, lookup, knows, barred}
-use Rattle.sheets.specs.Refusals.{Fault, name, kind}
-use Rattle.sheets.specs.Machine.{Given}
-use Rattle.sheets.specs.Check.{Checked, fine, bad, thenᶜ, known?, kindOfExpr, kindsOfExprs, Stateᶜ, giveᶜ, stepᶜ, Walked, passes, refuses, onwardᶜ, stepsᶜ, readingKinds, walk}
+use Rattle.sheets.specs.Refusals.{Fault, name, kind, Checked, fine, bad, thenᶜ, known?}
+use Rattle.sheets.specs.Check.{kindOfExpr, kindsOfExprs, Stateᶜ, stepᶜ, Walked, passes, refuses, onwardᶜ, stepsᶜ, readingKinds, walk}
 use Rattle.sheets.specs.Admitted.{In, HasKind, HaveKinds, LinesFit}
 
 -- ---- tests

@@ -16,8 +16,8 @@ use Rattle.sheets.specs.Table.{table}
 use Rattle.sheets.specs.Lookup.{findKind}
 use Rattle.sheets.specs.Names.{Known, lookup}
 use Rattle.sheets.specs.code.KindCodes.{keyFrom, kindOr255, RowKind}
-use Rattle.sheets.specs.Refusals.{Fault, name, kind, fault, refusalNumber}
-use Rattle.sheets.specs.Check.{Checked, fine, bad, thenᶜ, known?, kindOfExpr, kindsOfExprs}
+use Rattle.sheets.specs.Refusals.{Fault, name, kind, fault, refusalNumber, Checked, fine, bad, thenᶜ, known?}
+use Rattle.sheets.specs.Check.{kindOfExpr, kindsOfExprs}
 use Rattle.sheets.specs.declared.bytes.WordRead.{WordRead}
 use Rattle.sheets.specs.declared.num.Numeral.{Numeral}
 use Rattle.sheets.specs.declared.num.NumRead.{NumRead}

@@ -122,9 +122,9 @@ slots-kept zero k h t rs y c = refl
 slots-kept (suc n) k h t rs y c = rw (getD-set-other t k (suc n) y emptySlot (λ e. omega arith), slots-kept n k (omega arith) t rs y c) refl
 
 -- a let gives the word w the value x
-pub tabled-let : (ps : Known Value) (t : List Slot) (n : ℕ) (rs : List Float) → Tabled ps t n rs → suc n < length t → (w : Word) → IsWord w → (x : Value) (y : Slot) → y .word ≡ codeOf w → y .value ≡ x → Tabled ((w, x) ∷ ps) (set t (suc n) y) (suc n) rs
+pub tabled-let : (ps : Known Value) (t : List Slot) (n : ℕ) (rs : List Float) → Tabled ps t n rs → suc n < length t → (w : Word) → IsWord w → (x : Value) (y : Slot) → y .word ≡ codeOf w → y .value ≡ x → (i : ℕ) → Tabled (record { line = i; name = w; value = x } ∷ ps) (set t (suc n) y) (suc n) rs
 unfolding wordFound
-tabled-let ps t n rs tb h w iw x y ew ev = record {
+tabled-let ps t n rs tb h w iw x y ew ev i = record {
   is = λ v iv.
       found-or (sameWord v w) x (lookup v ps)
       ∙ ap (λ b. when b (Found.Value x) (foundOf (lookup v ps))) (sym (words-agree w v iw iv))

@@ -18,8 +18,8 @@ use Rattle.sheets.specs.Kinds.{Kind, kindCode}
 use Rattle.sheets.specs.Lookup.{sameWord}
 use Rattle.sheets.specs.Names.{Known, orElse as orLater, lookup, knows, barred}
 use Rattle.sheets.specs.code.KindCodes.{Opens}
-use Rattle.sheets.specs.Refusals.{fault, refusalNumber}
-use Rattle.sheets.specs.Check.{Checked, fine, bad, thenᶜ, kindOfExpr}
+use Rattle.sheets.specs.Refusals.{fault, refusalNumber, Checked, fine, bad, thenᶜ}
+use Rattle.sheets.specs.Check.{kindOfExpr}
 use Rattle.sheets.specs.declared.bytes.WordRead.{WordRead}
 use Rattle.sheets.specs.declared.expr.Read.{Read}
 use Rattle.sheets.proofs.ReaderLaws.{then-got}
@@ -40,9 +40,9 @@ isSome (some k) = true
 
 knows-is : (w : Word) (ps : Known Kind) → isSome (lookup w ps) ≡ knows w ps
 knows-is w [] = refl
-knows-is w (p ∷ ps) = go (sameWord w (p .0)) (knows-is w ps)
+knows-is w (p ∷ ps) = go (sameWord w (p .name)) (knows-is w ps)
   where
-    go : (b : Bool) → isSome (lookup w ps) ≡ knows w ps → isSome (orLater b (p .1) (lookup w ps)) ≡ (b || knows w ps)
+    go : (b : Bool) → isSome (lookup w ps) ≡ knows w ps → isSome (orLater b (p .value) (lookup w ps)) ≡ (b || knows w ps)
     go true e = refl
     go false e = e
 

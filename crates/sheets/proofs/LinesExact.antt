@@ -10,85 +10,86 @@ use Rattle.sheets.specs.Trees.{Expr, Line, let-line, show-line, Sheet}
 use Rattle.sheets.specs.Kinds.{Kind, kindCode}
 use Rattle.sheets.specs.Table.{table}
 use Rattle.sheets.specs.Lookup.{opens}
-use Rattle.sheets.specs.Names.{Known, lookup, knows, barred}
-use Rattle.sheets.specs.Refusals.{name}
-use Rattle.sheets.specs.Machine.{Given}
-use Rattle.sheets.specs.Check.{Checked, fine, bad, thenᶜ, known?, kindOfExpr, Stateᶜ, giveᶜ, stepᶜ, Walked, passes, refuses, onwardᶜ, stepsᶜ, readingKinds, startᶜ, walk}
+use Rattle.sheets.specs.Names.{Given, Known, lookup, knows, barred}
+use Rattle.sheets.specs.Scopes.{withName, giveIf, give}
+use Rattle.sheets.specs.Refusals.{name, Checked, fine, bad, thenᶜ, known?}
+use Rattle.sheets.specs.Machine.{numbered}
+use Rattle.sheets.specs.Check.{kindOfExpr, Stateᶜ, noted, stepᶜ, Walked, passes, refuses, onwardᶜ, stepsᶜ, readingKinds, startᶜ, walk}
 use Rattle.sheets.specs.Admitted.{HasKind, LinesFit}
 use Rattle.sheets.proofs.KindExact.{kind-exact}
 
 -- ---- what passes is admitted
 
-abbrev Passing : Stateᶜ → List Line → Walked → Type 0
-Passing s xs (passes all) = (cs : List ℕ) × (all ≡ s .codes ++ cs) × LinesFit (s .known) xs cs
-Passing s xs (refuses f j) = Unit {0}
+abbrev Passing : ℕ → Stateᶜ → List Line → Walked → Type 0
+Passing i s xs (passes all) = (cs : List ℕ) × (all ≡ s .codes ++ cs) × LinesFit i (s .scope .known) xs cs
+Passing i s xs (refuses f j) = Unit {0}
 
 -- the state after a let, and after a show
 abbrev givenState : ℕ → Stateᶜ → Word → Kind → Stateᶜ
-givenState i s w k = record { known = (w, k) ∷ s .known; given = record { line = i; name = w; value = k } ∷ s .given; codes = s .codes ++ (kindCode k ∷ []) }
+givenState i s w k = record { scope = withName (record { line = i; name = w; value = k }) (s .scope); codes = s .codes ++ (kindCode k ∷ []) }
 
 abbrev shownState : Stateᶜ → Kind → Stateᶜ
-shownState s k = record { known = s .known; given = s .given; codes = s .codes ++ (kindCode k ∷ []) }
+shownState s k = record { scope = s .scope; codes = s .codes ++ (kindCode k ∷ []) }
 
 joined : (all : List ℕ) (s : Stateᶜ) (k : Kind) (cs : List ℕ) → all ≡ (s .codes ++ (kindCode k ∷ [])) ++ cs → all ≡ s .codes ++ (kindCode k ∷ cs)
 joined all s k cs e = e ∙ append-assoc (s .codes) (kindCode k ∷ []) cs
 
 let-passing : (i : ℕ) (s : Stateᶜ) (w : Word) (x : Expr) (xs : List Line) (k : Kind) (o : Walked)
-    → HasKind x (s .known) k → opens table w ≡ false → knows w (s .known) ≡ false → Passing (givenState i s w k) xs o → Passing s (let-line w x ∷ xs) o
+    → HasKind x (s .scope .known) k → opens table w ≡ false → knows w (s .scope .known) ≡ false → Passing (suc i) (givenState i s w k) xs o → Passing i s (let-line w x ∷ xs) o
 let-passing i s w x xs k (passes all) h p q r = (kindCode k ∷ r .0, joined all s k (r .0) (r .1), (k, r .0, h, p, q, r .2, refl))
 let-passing i s w x xs k (refuses f j) h p q r = tt
 
-show-passing : (s : Stateᶜ) (w : Word) (xs : List Line) (k : Kind) (o : Walked) → lookup w (s .known) ≡ some k → Passing (shownState s k) xs o → Passing s (show-line w ∷ xs) o
-show-passing s w xs k (passes all) h r = (kindCode k ∷ r .0, joined all s k (r .0) (r .1), (k, r .0, h, r .2, refl))
-show-passing s w xs k (refuses f j) h r = tt
+show-passing : (i : ℕ) (s : Stateᶜ) (w : Word) (xs : List Line) (k : Kind) (o : Walked) → lookup w (s .scope .known) ≡ some k → Passing (suc i) (shownState s k) xs o → Passing i s (show-line w ∷ xs) o
+show-passing i s w xs k (passes all) h r = (kindCode k ∷ r .0, joined all s k (r .0) (r .1), (k, r .0, h, r .2, refl))
+show-passing i s w xs k (refuses f j) h r = tt
 
-passing : (xs : List Line) (i : ℕ) (s : Stateᶜ) → Passing s xs (stepsᶜ xs i s)
+passing : (xs : List Line) (i : ℕ) (s : Stateᶜ) → Passing i s xs (stepsᶜ (numbered i xs) s)
 unfolding stepsᶜ stepᶜ
 passing [] i s = ([], sym (append-nil (s .codes)), refl)
-passing (let-line w x ∷ xs) i s = go (λ k. passing xs (suc i) (givenState i s w k)) (kindOfExpr x (s .known)) (λ k e. kind-exact x (s .known) k .0 e)
+passing (let-line w x ∷ xs) i s = go (λ k. passing xs (suc i) (givenState i s w k)) (kindOfExpr x (s .scope .known)) (λ k e. kind-exact x (s .scope .known) k .0 e)
   where
-    next : ((k : Kind) → Passing (givenState i s w k) xs (stepsᶜ xs (suc i) (givenState i s w k))) → (k : Kind) → HasKind x (s .known) k → (a b : Bool) → opens table w ≡ a → knows w (s .known) ≡ b
-        → Passing s (let-line w x ∷ xs) (onwardᶜ (giveᶜ (a || b) i s w k) i (λ t. stepsᶜ xs (suc i) t))
+    next : ((k : Kind) → Passing (suc i) (givenState i s w k) xs (stepsᶜ (numbered (suc i) xs) (givenState i s w k))) → (k : Kind) → HasKind x (s .scope .known) k → (a b : Bool) → opens table w ≡ a → knows w (s .scope .known) ≡ b
+        → Passing i s (let-line w x ∷ xs) (onwardᶜ (thenᶜ (giveIf (a || b) (record { line = i; name = w; value = k }) (s .scope)) (noted s (kindCode k))) i (λ t. stepsᶜ (numbered (suc i) xs) t))
     next rest k h true b p q = tt
     next rest k h false true p q = tt
-    next rest k h false false p q = let-passing i s w x xs k (stepsᶜ xs (suc i) (givenState i s w k)) h p q (rest k)
+    next rest k h false false p q = let-passing i s w x xs k (stepsᶜ (numbered (suc i) xs) (givenState i s w k)) h p q (rest k)
 
-    go : ((k : Kind) → Passing (givenState i s w k) xs (stepsᶜ xs (suc i) (givenState i s w k))) → (o : Checked Kind) → ((k : Kind) → o ≡ fine k → HasKind x (s .known) k)
-        → Passing s (let-line w x ∷ xs) (onwardᶜ (thenᶜ o (λ k. giveᶜ (barred w (s .known)) i s w k)) i (λ t. stepsᶜ xs (suc i) t))
+    go : ((k : Kind) → Passing (suc i) (givenState i s w k) xs (stepsᶜ (numbered (suc i) xs) (givenState i s w k))) → (o : Checked Kind) → ((k : Kind) → o ≡ fine k → HasKind x (s .scope .known) k)
+        → Passing i s (let-line w x ∷ xs) (onwardᶜ (thenᶜ o (λ k. thenᶜ (give (record { line = i; name = w; value = k }) (s .scope)) (noted s (kindCode k)))) i (λ t. stepsᶜ (numbered (suc i) xs) t))
     go rest (bad c) h = tt
-    go rest (fine k) h = next rest k (h k refl) (opens table w) (knows w (s .known)) refl refl
-passing (show-line w ∷ xs) i s = go (λ k. passing xs (suc i) (shownState s k)) (lookup w (s .known)) refl
+    go rest (fine k) h = next rest k (h k refl) (opens table w) (knows w (s .scope .known)) refl refl
+passing (show-line w ∷ xs) i s = go (λ k. passing xs (suc i) (shownState s k)) (lookup w (s .scope .known)) refl
   where
-    go : ((k : Kind) → Passing (shownState s k) xs (stepsᶜ xs (suc i) (shownState s k))) → (o : Option Kind) → lookup w (s .known) ≡ o
-        → Passing s (show-line w ∷ xs) (onwardᶜ (thenᶜ (known? name o) (λ k. fine (shownState s k))) i (λ t. stepsᶜ xs (suc i) t))
+    go : ((k : Kind) → Passing (suc i) (shownState s k) xs (stepsᶜ (numbered (suc i) xs) (shownState s k))) → (o : Option Kind) → lookup w (s .scope .known) ≡ o
+        → Passing i s (show-line w ∷ xs) (onwardᶜ (thenᶜ (known? name o) (λ k. fine (shownState s k))) i (λ t. stepsᶜ (numbered (suc i) xs) t))
     go rest none e = tt
-    go rest (some k) e = show-passing s w xs k (stepsᶜ xs (suc i) (shownState s k)) e (rest k)
+    go rest (some k) e = show-passing i s w xs k (stepsᶜ (numbered (suc i) xs) (shownState s k)) e (rest k)
 
 -- ---- what is admitted passes
 
-admitted-passes : (xs : List Line) (i : ℕ) (s : Stateᶜ) (cs : List ℕ) → LinesFit (s .known) xs cs → stepsᶜ xs i s ≡ passes (s .codes ++ cs)
+admitted-passes : (xs : List Line) (i : ℕ) (s : Stateᶜ) (cs : List ℕ) → LinesFit i (s .scope .known) xs cs → stepsᶜ (numbered i xs) s ≡ passes (s .codes ++ cs)
 unfolding stepsᶜ stepᶜ
 admitted-passes [] i s cs h = ap passes (sym (append-nil (s .codes)) ∙ ap (λ (ds : List ℕ). s .codes ++ ds) h)
 admitted-passes (let-line w x ∷ xs) i s cs h =
     let (k, ds, has, free, new, rest, e) = h in
-    ap (λ o. onwardᶜ (thenᶜ o (λ j. giveᶜ (barred w (s .known)) i s w j)) i (λ t. stepsᶜ xs (suc i) t)) (kind-exact x (s .known) k .1 has)
-    ∙ ap (λ b. onwardᶜ (giveᶜ b i s w k) i (λ t. stepsᶜ xs (suc i) t)) (ap₂ (λ a b. a || b) free new)
+    ap (λ o. onwardᶜ (thenᶜ o (λ j. thenᶜ (give (record { line = i; name = w; value = j }) (s .scope)) (noted s (kindCode j)))) i (λ t. stepsᶜ (numbered (suc i) xs) t)) (kind-exact x (s .scope .known) k .1 has)
+    ∙ ap (λ b. onwardᶜ (thenᶜ (giveIf b (record { line = i; name = w; value = k }) (s .scope)) (noted s (kindCode k))) i (λ t. stepsᶜ (numbered (suc i) xs) t)) (ap₂ (λ a b. a || b) free new)
     ∙ admitted-passes xs (suc i) (givenState i s w k) ds rest
     ∙ ap passes (append-assoc (s .codes) (kindCode k ∷ []) ds ∙ ap (λ (l : List ℕ). s .codes ++ l) e)
 admitted-passes (show-line w ∷ xs) i s cs h =
     let (k, ds, has, rest, e) = h in
-    ap (λ o. onwardᶜ (thenᶜ (known? name o) (λ j. fine (shownState s j))) i (λ t. stepsᶜ xs (suc i) t)) has
+    ap (λ o. onwardᶜ (thenᶜ (known? name o) (λ j. fine (shownState s j))) i (λ t. stepsᶜ (numbered (suc i) xs) t)) has
     ∙ admitted-passes xs (suc i) (shownState s k) ds rest
     ∙ ap passes (append-assoc (s .codes) (kindCode k ∷ []) ds ∙ ap (λ (l : List ℕ). s .codes ++ l) e)
 
 -- ---- a whole sheet
 
-pub walk-passes : (c : Sheet) (cs : List ℕ) → walk c ≡ passes cs → LinesFit readingKinds (c .lines) cs
+pub walk-passes : (c : Sheet) (cs : List ℕ) → walk c ≡ passes cs → LinesFit 2 readingKinds (c .lines) cs
 unfolding walk
 walk-passes c cs e =
-    let p = subst (Passing startᶜ (c .lines)) e (passing (c .lines) 2 startᶜ) in
-    subst (LinesFit readingKinds (c .lines)) (sym (p .1)) (p .2)
+    let p = subst (Passing 2 startᶜ (c .lines)) e (passing (c .lines) 2 startᶜ) in
+    subst (LinesFit 2 readingKinds (c .lines)) (sym (p .1)) (p .2)
 
-pub walk-admits : (c : Sheet) (cs : List ℕ) → LinesFit readingKinds (c .lines) cs → walk c ≡ passes cs
+pub walk-admits : (c : Sheet) (cs : List ℕ) → LinesFit 2 readingKinds (c .lines) cs → walk c ≡ passes cs
 unfolding walk
 walk-admits c cs h = admitted-passes (c .lines) 2 startᶜ cs h

@@ -19,17 +19,18 @@ use Rattle.sheets.specs.Trees.{Expr, Line, let-line, show-line}
 use Rattle.sheets.specs.Grammar.{IsWord, after as afterPhase}
 use Rattle.sheets.specs.code.Codes.{codeOf}
 use Rattle.sheets.specs.Names.{Known, lookup, barred}
+use Rattle.sheets.specs.Scopes.{giveIf, give}
 use Rattle.sheets.specs.Refusals.{Stop, stop, refusalNumber}
-use Rattle.sheets.specs.Output.{outputLine}
+use Rattle.sheets.specs.Output.{outputLine, entryLines}
 use Rattle.sheets.specs.code.Writing.{Written, lineIf, room}
 use Rattle.sheets.specs.code.Reader.{got, readWord, readLine, formed, readLines}
-use Rattle.sheets.specs.Machine.{Out, goes, stops, sticks, after, then as thenᵒ, meet, eval, Given, State, give, write, step, Ran, done, stopped, stuck, afterwards, onward, steps}
+use Rattle.sheets.specs.Machine.{Out, goes, stops, sticks, after, then as thenᵒ, meet, eval, State, orSticks, rescoped, write, step, Ran, done, stopped, stuck, afterwards, onward, steps, numbered}
 use Rattle.sheets.specs.declared.answers.RunAnswer.{RunAnswer}
 use Rattle.sheets.specs.Answers.{laid, ranAnswer, ranText}
 use Rattle.sheets.specs.Claim.{Unstuck}
 use Rattle.sheets.proofs.Slices.{part, line-part, line-alone, word-is}
 use Rattle.sheets.proofs.Walks.{Step, walk-end, walk-line}
-use Rattle.sheets.proofs.TextBound.{line-length, word-length}
+use Rattle.sheets.proofs.TextBound.{line-length, word-length, entries-last}
 use Rattle.sheets.proofs.LineText.{line-laid}
 use Rattle.sheets.specs.code.Operands.{Ready}
 use Rattle.sheets.specs.code.Running.{wordFound, Tabled, NextLine, letEffect, showEffect, EffectOf, EffectWith, Runs}
@@ -56,81 +57,81 @@ unstuck-after fs (stuck hs i s) u = u
 -- ---- the machine's step, by the line's effect
 
 module _ (l : List ℕ) (i : ℕ) (st : State) where
-  stops-step : (k : ℕ) (x : Line) → EffectOf l x (st .ellipsoid) (st .known) (Effect.Stops k) → (fs : List LocalFrame) × (c : Stop) × (step i st x ≡ stops fs c) × (k ≡ refusalNumber (stop c))
+  stops-step : (k : ℕ) (x : Line) → EffectOf l x (st .ellipsoid) (st .scope .known) (Effect.Stops k) → (fs : List LocalFrame) × (c : Stop) × (step i st x ≡ stops fs c) × (k ≡ refusalNumber (stop c))
   unfolding EffectOf letEffect showEffect step
-  stops-step k (let-line w x) h = go (eval x (st .ellipsoid) (st .known)) refl h
+  stops-step k (let-line w x) h = go (eval x (st .ellipsoid) (st .scope .known)) refl h
     where
-      go : (o : Out Value) → eval x (st .ellipsoid) (st .known) ≡ o → Effect.Stops k ≡ letEffect (codeOf w) o
-          → (fs : List LocalFrame) × (c : Stop) × (thenᵒ (eval x (st .ellipsoid) (st .known)) (λ y. give (barred w (st .known)) i st w y) ≡ stops fs c) × (k ≡ refusalNumber (stop c))
+      go : (o : Out Value) → eval x (st .ellipsoid) (st .scope .known) ≡ o → Effect.Stops k ≡ letEffect (codeOf w) o
+          → (fs : List LocalFrame) × (c : Stop) × (thenᵒ (eval x (st .ellipsoid) (st .scope .known)) (λ y. thenᵒ (orSticks (give (record { line = i; name = w; value = y }) (st .scope))) (rescoped st)) ≡ stops fs c) × (k ≡ refusalNumber (stop c))
       go (goes fs v) e h = let z : _≡_ {A = ℕ} 0 1 = cc in absurd (omega arith)
-      go (stops fs c) e h = (fs, c, ap (λ o. thenᵒ o (λ y. give (barred w (st .known)) i st w y)) e, cc)
+      go (stops fs c) e h = (fs, c, ap (λ o. thenᵒ o (λ y. thenᵒ (orSticks (give (record { line = i; name = w; value = y }) (st .scope))) (rescoped st))) e, cc)
       go (sticks fs) e h = let z : _≡_ {A = ℕ} 0 1 = cc in absurd (omega arith)
-  stops-step k (show-line w) (m, ew, h) = go (meet (lookup w (st .known))) refl h
+  stops-step k (show-line w) (m, ew, h) = go (meet (lookup w (st .scope .known))) refl h
     where
-      go : (o : Out Value) → meet (lookup w (st .known)) ≡ o → Effect.Stops k ≡ showEffect m o
-          → (fs : List LocalFrame) × (c : Stop) × (thenᵒ (meet (lookup w (st .known))) (λ y. goes [] (write st w y)) ≡ stops fs c) × (k ≡ refusalNumber (stop c))
+      go : (o : Out Value) → meet (lookup w (st .scope .known)) ≡ o → Effect.Stops k ≡ showEffect m o
+          → (fs : List LocalFrame) × (c : Stop) × (thenᵒ (meet (lookup w (st .scope .known))) (λ y. goes [] (write i st w y)) ≡ stops fs c) × (k ≡ refusalNumber (stop c))
       go (goes fs v) e h = let z : _≡_ {A = ℕ} 0 1 = cc in absurd (omega arith)
-      go (stops fs c) e h = (fs, c, ap (λ o. thenᵒ o (λ y. goes [] (write st w y))) e, cc)
+      go (stops fs c) e h = (fs, c, ap (λ o. thenᵒ o (λ y. goes [] (write i st w y))) e, cc)
       go (sticks fs) e h = let z : _≡_ {A = ℕ} 0 1 = cc in absurd (omega arith)
 
-  sticks-step : (x : Line) → EffectOf l x (st .ellipsoid) (st .known) Effect.Sticks → (fs : List LocalFrame) × (step i st x ≡ sticks fs)
+  sticks-step : (x : Line) → EffectOf l x (st .ellipsoid) (st .scope .known) Effect.Sticks → (fs : List LocalFrame) × (step i st x ≡ sticks fs)
   unfolding EffectOf letEffect showEffect step
-  sticks-step (let-line w x) h = go (eval x (st .ellipsoid) (st .known)) refl h
+  sticks-step (let-line w x) h = go (eval x (st .ellipsoid) (st .scope .known)) refl h
     where
-      go : (o : Out Value) → eval x (st .ellipsoid) (st .known) ≡ o → Effect.Sticks ≡ letEffect (codeOf w) o
-          → (fs : List LocalFrame) × (thenᵒ (eval x (st .ellipsoid) (st .known)) (λ y. give (barred w (st .known)) i st w y) ≡ sticks fs)
+      go : (o : Out Value) → eval x (st .ellipsoid) (st .scope .known) ≡ o → Effect.Sticks ≡ letEffect (codeOf w) o
+          → (fs : List LocalFrame) × (thenᵒ (eval x (st .ellipsoid) (st .scope .known)) (λ y. thenᵒ (orSticks (give (record { line = i; name = w; value = y }) (st .scope))) (rescoped st)) ≡ sticks fs)
       go (goes fs v) e h = let z : _≡_ {A = ℕ} 0 1 = cc in absurd (omega arith)
       go (stops fs c) e h = let z : _≡_ {A = ℕ} 0 1 = cc in absurd (omega arith)
-      go (sticks fs) e h = (fs, ap (λ o. thenᵒ o (λ y. give (barred w (st .known)) i st w y)) e)
-  sticks-step (show-line w) (m, ew, h) = go (meet (lookup w (st .known))) refl h
+      go (sticks fs) e h = (fs, ap (λ o. thenᵒ o (λ y. thenᵒ (orSticks (give (record { line = i; name = w; value = y }) (st .scope))) (rescoped st))) e)
+  sticks-step (show-line w) (m, ew, h) = go (meet (lookup w (st .scope .known))) refl h
     where
-      go : (o : Out Value) → meet (lookup w (st .known)) ≡ o → Effect.Sticks ≡ showEffect m o
-          → (fs : List LocalFrame) × (thenᵒ (meet (lookup w (st .known))) (λ y. goes [] (write st w y)) ≡ sticks fs)
+      go : (o : Out Value) → meet (lookup w (st .scope .known)) ≡ o → Effect.Sticks ≡ showEffect m o
+          → (fs : List LocalFrame) × (thenᵒ (meet (lookup w (st .scope .known))) (λ y. goes [] (write i st w y)) ≡ sticks fs)
       go (goes fs v) e h = let z : _≡_ {A = ℕ} 0 1 = cc in absurd (omega arith)
       go (stops fs c) e h = let z : _≡_ {A = ℕ} 0 1 = cc in absurd (omega arith)
-      go (sticks fs) e h = (fs, ap (λ o. thenᵒ o (λ y. goes [] (write st w y))) e)
+      go (sticks fs) e h = (fs, ap (λ o. thenᵒ o (λ y. goes [] (write i st w y))) e)
 
-  gives-step : (k : ℕ) (v : Value) (x : Line) → EffectOf l x (st .ellipsoid) (st .known) (Effect.Gives k v)
-      → (w : Word) × (y : Expr) × (fs : List LocalFrame) × (x ≡ let-line w y) × (k ≡ codeOf w) × (step i st x ≡ after fs (give (barred w (st .known)) i st w v))
+  gives-step : (k : ℕ) (v : Value) (x : Line) → EffectOf l x (st .ellipsoid) (st .scope .known) (Effect.Gives k v)
+      → (w : Word) × (y : Expr) × (fs : List LocalFrame) × (x ≡ let-line w y) × (k ≡ codeOf w) × (step i st x ≡ after fs (thenᵒ (orSticks (give (record { line = i; name = w; value = v }) (st .scope))) (rescoped st)))
   unfolding EffectOf letEffect showEffect step
-  gives-step k v (let-line w x) h = go (eval x (st .ellipsoid) (st .known)) refl h
+  gives-step k v (let-line w x) h = go (eval x (st .ellipsoid) (st .scope .known)) refl h
     where
-      go : (o : Out Value) → eval x (st .ellipsoid) (st .known) ≡ o → Effect.Gives k v ≡ letEffect (codeOf w) o
+      go : (o : Out Value) → eval x (st .ellipsoid) (st .scope .known) ≡ o → Effect.Gives k v ≡ letEffect (codeOf w) o
           → (u : Word) × (y : Expr) × (fs : List LocalFrame) × (let-line w x ≡ let-line u y) × (k ≡ codeOf u)
-          × (thenᵒ (eval x (st .ellipsoid) (st .known)) (λ y. give (barred w (st .known)) i st w y) ≡ after fs (give (barred u (st .known)) i st u v))
+          × (thenᵒ (eval x (st .ellipsoid) (st .scope .known)) (λ y. thenᵒ (orSticks (give (record { line = i; name = w; value = y }) (st .scope))) (rescoped st)) ≡ after fs (thenᵒ (orSticks (give (record { line = i; name = u; value = v }) (st .scope))) (rescoped st)))
       go (goes fs u) e h =
           let iv : u ≡ v = cc in
           let ik : k ≡ codeOf w = cc in
-          (w, x, fs, refl, ik, ap (λ o. thenᵒ o (λ y. give (barred w (st .known)) i st w y)) e ∙ ap (λ y. after fs (give (barred w (st .known)) i st w y)) iv)
+          (w, x, fs, refl, ik, ap (λ o. thenᵒ o (λ y. thenᵒ (orSticks (give (record { line = i; name = w; value = y }) (st .scope))) (rescoped st))) e ∙ ap (λ y. after fs (thenᵒ (orSticks (give (record { line = i; name = w; value = y }) (st .scope))) (rescoped st))) iv)
       go (stops fs c) e h = let z : _≡_ {A = ℕ} 0 1 = cc in absurd (omega arith)
       go (sticks fs) e h = let z : _≡_ {A = ℕ} 0 1 = cc in absurd (omega arith)
-  gives-step k v (show-line w) (m, ew, h) = go (meet (lookup w (st .known))) h
+  gives-step k v (show-line w) (m, ew, h) = go (meet (lookup w (st .scope .known))) h
     where
       go : (o : Out Value) → Effect.Gives k v ≡ showEffect m o
           → (u : Word) × (y : Expr) × (fs : List LocalFrame) × (show-line w ≡ let-line u y) × (k ≡ codeOf u)
-          × (thenᵒ (meet (lookup w (st .known))) (λ y. goes [] (write st w y)) ≡ after fs (give (barred u (st .known)) i st u v))
+          × (thenᵒ (meet (lookup w (st .scope .known))) (λ y. goes [] (write i st w y)) ≡ after fs (thenᵒ (orSticks (give (record { line = i; name = u; value = v }) (st .scope))) (rescoped st)))
       go (goes fs u) h = let z : _≡_ {A = ℕ} 0 1 = cc in absurd (omega arith)
       go (stops fs c) h = let z : _≡_ {A = ℕ} 0 1 = cc in absurd (omega arith)
       go (sticks fs) h = let z : _≡_ {A = ℕ} 0 1 = cc in absurd (omega arith)
 
-  shows-step : (m : ℕ) (v : Value) (x : Line) → EffectOf l x (st .ellipsoid) (st .known) (Effect.Shows m v)
-      → (w : Word) × (fs : List LocalFrame) × (readWord l 6 ≡ got w m) × (step i st x ≡ goes fs (write st w v))
+  shows-step : (m : ℕ) (v : Value) (x : Line) → EffectOf l x (st .ellipsoid) (st .scope .known) (Effect.Shows m v)
+      → (w : Word) × (fs : List LocalFrame) × (readWord l 6 ≡ got w m) × (step i st x ≡ goes fs (write i st w v))
   unfolding EffectOf letEffect showEffect step
-  shows-step m v (let-line w x) h = go (eval x (st .ellipsoid) (st .known)) h
+  shows-step m v (let-line w x) h = go (eval x (st .ellipsoid) (st .scope .known)) h
     where
       go : (o : Out Value) → Effect.Shows m v ≡ letEffect (codeOf w) o
-          → (u : Word) × (fs : List LocalFrame) × (readWord l 6 ≡ got u m) × (thenᵒ (eval x (st .ellipsoid) (st .known)) (λ y. give (barred w (st .known)) i st w y) ≡ goes fs (write st u v))
+          → (u : Word) × (fs : List LocalFrame) × (readWord l 6 ≡ got u m) × (thenᵒ (eval x (st .ellipsoid) (st .scope .known)) (λ y. thenᵒ (orSticks (give (record { line = i; name = w; value = y }) (st .scope))) (rescoped st)) ≡ goes fs (write i st u v))
       go (goes fs u) h = let z : _≡_ {A = ℕ} 0 1 = cc in absurd (omega arith)
       go (stops fs c) h = let z : _≡_ {A = ℕ} 0 1 = cc in absurd (omega arith)
       go (sticks fs) h = let z : _≡_ {A = ℕ} 0 1 = cc in absurd (omega arith)
-  shows-step m v (show-line w) (j, ew, h) = go (meet (lookup w (st .known))) refl h
+  shows-step m v (show-line w) (j, ew, h) = go (meet (lookup w (st .scope .known))) refl h
     where
-      go : (o : Out Value) → meet (lookup w (st .known)) ≡ o → Effect.Shows m v ≡ showEffect j o
-          → (u : Word) × (fs : List LocalFrame) × (readWord l 6 ≡ got u m) × (thenᵒ (meet (lookup w (st .known))) (λ y. goes [] (write st w y)) ≡ goes fs (write st u v))
+      go : (o : Out Value) → meet (lookup w (st .scope .known)) ≡ o → Effect.Shows m v ≡ showEffect j o
+          → (u : Word) × (fs : List LocalFrame) × (readWord l 6 ≡ got u m) × (thenᵒ (meet (lookup w (st .scope .known))) (λ y. goes [] (write i st w y)) ≡ goes fs (write i st u v))
       go (goes fs u) e h =
           let iv : u ≡ v = cc in
           let ij : j ≡ m = cc in
-          (w, fs ++ [], ew ∙ ap (got w) ij, ap (λ o. thenᵒ o (λ y. goes [] (write st w y))) e ∙ ap (λ y. goes (fs ++ []) (write st w y)) iv)
+          (w, fs ++ [], ew ∙ ap (got w) ij, ap (λ o. thenᵒ o (λ y. goes [] (write i st w y))) e ∙ ap (λ y. goes (fs ++ []) (write i st w y)) iv)
       go (stops fs c) e h = let z : _≡_ {A = ℕ} 0 1 = cc in absurd (omega arith)
       go (sticks fs) e h = let z : _≡_ {A = ℕ} 0 1 = cc in absurd (omega arith)
 
@@ -161,21 +162,21 @@ module _ (s : List ℕ) (e : Ellipsoid) (rs : List Float) (d : List ℕ) (at num
       (m : ℕ) (hm : length (part s at to) ≤ m) (u : Upto (part s at to) ks fs (wordFound t rs n) m)
       (x : Effect) (hx : EffectWith (part s at to) e ks fs x) where
     -- the line at this place does this to the machine's state
-    line-is : (ls : List Line) (left p : ℕ) (el : readLines left number p s at ≡ formed ls) → (st : State) → st .ellipsoid ≡ e → Tabled (st .known) t n rs
-        → (sp : Step s left number p at ls el) × (k : ℕ) × (readLine (part s at to) 0 ≡ got (sp .line) k) × (sp .next ≡ to) × EffectOf (part s at to) (sp .line) (st .ellipsoid) (st .known) x
+    line-is : (ls : List Line) (left p : ℕ) (el : readLines left number p s at ≡ formed ls) → (st : State) → st .ellipsoid ≡ e → Tabled (st .scope .known) t n rs
+        → (sp : Step s left number p at ls el) × (k : ℕ) × (readLine (part s at to) 0 ≡ got (sp .line) k) × (sp .next ≡ to) × EffectOf (part s at to) (sp .line) (st .ellipsoid) (st .scope .known) x
     line-is ls left p el st ee tb =
         let sp = walk-line s left number p at ls el h in
         let it : to ≡ sp .next = ht .is (sp .line) (sp .next) (sp .stands) in
         let a = line-alone s at (sp .line) (sp .next) (sp .stands) in
         let b = subst (λ y. readLine (part s at y) 0 ≡ got (sp .line) (sp .next - at)) (sym it) a in
-        (sp, sp .next - at, b, sym it, subst (λ y. EffectOf (part s at to) (sp .line) y (st .known) x) (sym ee) (hx .is (st .known) (upto-ready (part s at to) ks fs t n rs m hm (space-late (part s at to) (sp .line) (sp .next - at) b) u (st .known) tb) (sp .line) (sp .next - at) b))
+        (sp, sp .next - at, b, sym it, subst (λ y. EffectOf (part s at to) (sp .line) y (st .scope .known) x) (sym ee) (hx .is (st .scope .known) (upto-ready (part s at to) ks fs t n rs m hm (space-late (part s at to) (sp .line) (sp .next - at) b) u (st .scope .known) tb) (sp .line) (sp .next - at) b))
 
     pub runs-stops : (k : ℕ) → x ≡ Effect.Stops k → (r : RunAnswer) → r ≡ record { number = k; line = number; written = written } → Runs s e rs d at number t n written out r out
     unfolding steps
     runs-stops k ex r er = record {
       is = λ ed ls left p el cl st ee tb ew bound eo un.
           let (sp, j, ej, en, ef) = line-is ls left p el st ee tb in
-          let (hs, c, es, ec) = stops-step (part s at to) number st k (sp .line) (subst (EffectOf (part s at to) (sp .line) (st .ellipsoid) (st .known)) ex ef) in
+          let (hs, c, es, ec) = stops-step (part s at to) number st k (sp .line) (subst (EffectOf (part s at to) (sp .line) (st .ellipsoid) (st .scope .known)) ex ef) in
           rw (sp .all, es) (er ∙ ap (λ y. record { number = y; line = number; written = written }) ec ∙ ap (λ y. record { number = refusalNumber (stop c); line = number; written = y }) ew, eo);
     }
 
@@ -184,20 +185,20 @@ module _ (s : List ℕ) (e : Ellipsoid) (rs : List Float) (d : List ℕ) (at num
     runs-sticks ex r = record {
       is = λ ed ls left p el cl st ee tb ew bound eo un.
           let (sp, j, ej, en, ef) = line-is ls left p el st ee tb in
-          let (hs, es) = sticks-step (part s at to) number st (sp .line) (subst (EffectOf (part s at to) (sp .line) (st .ellipsoid) (st .known)) ex ef) in
+          let (hs, es) = sticks-step (part s at to) number st (sp .line) (subst (EffectOf (part s at to) (sp .line) (st .ellipsoid) (st .scope .known)) ex ef) in
           absurd (rw (sp .all, es) at un);
     }
 
     -- what the rest answers from the state that the line left
-    onwards : (q : RunAnswer) (out′ : List ℕ) (ls : List Line) (fs : List LocalFrame) (st st′ : State) (y : Line) (ys : List Line) → ls ≡ y ∷ ys → step number st y ≡ goes fs st′ → Unstuck (steps ls number st)
-        → (Unstuck (steps ys (number + 1) st′) → Answers q out′ d (steps ys (number + 1) st′)) → Answers q out′ d (steps ls number st)
+    onwards : (q : RunAnswer) (out′ : List ℕ) (ls : List Line) (fs : List LocalFrame) (st st′ : State) (y : Line) (ys : List Line) → ls ≡ y ∷ ys → step number st y ≡ goes fs st′ → Unstuck (steps (numbered number ls) st)
+        → (Unstuck (steps (numbered (number + 1) ys) st′) → Answers q out′ d (steps (numbered (number + 1) ys) st′)) → Answers q out′ d (steps (numbered number ls) st)
     unfolding steps
     onwards q out′ ls hs st st′ y ys i es un f =
         let j : number + 1 ≡ suc number = omega arith in
-        let un′ = unstuck-after hs (steps ys (suc number) st′) (rw (i, es) at un) in
-        rw (i, es) (answers-after q out′ d hs (steps ys (suc number) st′) (subst (λ k. Answers q out′ d (steps ys k st′)) j (f (subst (λ k. Unstuck (steps ys k st′)) (sym j) un′))))
+        let un′ = unstuck-after hs (steps (numbered (suc number) ys) st′) (rw (i, es) at un) in
+        rw (i, es) (answers-after q out′ d hs (steps (numbered (suc number) ys) st′) (subst (λ k. Answers q out′ d (steps (numbered k ys) st′)) j (f (subst (λ k. Unstuck (steps (numbered k ys) st′)) (sym j) un′))))
 
-    stuck-here : (fs : List LocalFrame) (st : State) (ls : List Line) (y : Line) (ys : List Line) → ls ≡ y ∷ ys → step number st y ≡ sticks fs → Unstuck (steps ls number st) → ⊥
+    stuck-here : (fs : List LocalFrame) (st : State) (ls : List Line) (y : Line) (ys : List Line) → ls ≡ y ∷ ys → step number st y ≡ sticks fs → Unstuck (steps (numbered number ls) st) → ⊥
     unfolding steps
     stuck-here hs st ls y ys i es un = rw (i, es) at un
 
@@ -206,32 +207,32 @@ module _ (s : List ℕ) (e : Ellipsoid) (rs : List Float) (d : List ℕ) (at num
     runs-gives k v ex ln y ey q out′ hr = record {
       is = λ ed ls left p el cl st ee tb ew bound eo un.
           let (sp, j, ej, en, ef) = line-is ls left p el st ee tb in
-          let (w, a, hs, ea, ek, es) = gives-step (part s at to) number st k v (sp .line) (subst (EffectOf (part s at to) (sp .line) (st .ellipsoid) (st .known)) ex ef) in
+          let (w, a, hs, ea, ek, es) = gives-step (part s at to) number st k v (sp .line) (subst (EffectOf (part s at to) (sp .line) (st .ellipsoid) (st .scope .known)) ex ef) in
           let (i₁, j₁, b₁, c₁, ew₁, d₁, ex₁) = let-places (part s at to) w a j (ej ∙ ap (λ z. got z j) ea) in
-          given ed ls left p el cl st ee tb ew bound eo un sp en w hs (word-is (part s at to) 5 w i₁ ew₁) ek (barred w (st .known)) es;
+          given ed ls left p el cl st ee tb ew bound eo un sp en w hs (word-is (part s at to) 5 w i₁ ew₁) ek (barred w (st .scope .known)) es;
     }
       where
-        given : length d ≡ 24576 → (ls : List Line) (left p : ℕ) (el : readLines left number p s at ≡ formed ls) → number + left ≡ 97 → (st : State) → st .ellipsoid ≡ e → Tabled (st .known) t n rs → written ≡ length (st .text)
-            → written ≤ 223 * (number - 2) → out ≡ laid (st .text) d → Unstuck (steps ls number st) → (sp : Step s left number p at ls el) → sp .next ≡ to → (w : Word) (hs : List LocalFrame) → IsWord w → k ≡ codeOf w
-            → (b : Bool) → step number st (sp .line) ≡ after hs (give b number st w v) → Answers q out′ d (steps ls number st)
+        given : length d ≡ 24576 → (ls : List Line) (left p : ℕ) (el : readLines left number p s at ≡ formed ls) → number + left ≡ 97 → (st : State) → st .ellipsoid ≡ e → Tabled (st .scope .known) t n rs → written ≡ length (entryLines (st .entries))
+            → written ≤ 223 * (number - 2) → out ≡ laid (entryLines (st .entries)) d → Unstuck (steps (numbered number ls) st) → (sp : Step s left number p at ls el) → sp .next ≡ to → (w : Word) (hs : List LocalFrame) → IsWord w → k ≡ codeOf w
+            → (b : Bool) → step number st (sp .line) ≡ after hs (thenᵒ (orSticks (giveIf b (record { line = number; name = w; value = v }) (st .scope))) (rescoped st)) → Answers q out′ d (steps (numbered number ls) st)
         given ed ls left p el cl st ee tb ew bound eo un sp en w hs iw ek true es = absurd (stuck-here (hs ++ []) st ls (sp .line) (sp .rest) (sp .all) es un)
         given ed ls left p el cl st ee tb ew bound eo un sp en w hs iw ek false es =
             onwards q out′ ls (hs ++ []) st _ (sp .line) (sp .rest) (sp .all) es un (λ un′.
             hr .is ed (sp .rest) (sp .fewer) _ (subst (λ z. readLines (sp .fewer) (number + 1) (afterPhase p (sp .line)) s z ≡ formed (sp .rest)) en (sp .goes-on)) (omega (arith, sp .one-less, cl)) _ ee
-            (subst (λ z. Tabled ((w, v) ∷ st .known) (set t z y) z rs) (omega arith) (tabled-let (st .known) t n rs tb (omega arith) w iw v y (ap (λ (z : Slot). z .word) ey ∙ ek) (ap (λ (z : Slot). z .value) ey))) ew (omega arith) eo un′)
+            (subst (λ z. Tabled (record { line = number; name = w; value = v } ∷ st .scope .known) (set t z y) z rs) (omega arith) (tabled-let (st .scope .known) t n rs tb (omega arith) w iw v y (ap (λ (z : Slot). z .word) ey ∙ ek) (ap (λ (z : Slot). z .value) ey) number)) ew (omega arith) eo un′)
 
     pub runs-shows : (m : ℕ) (v : Value) → x ≡ Effect.Shows m v → (out₂ : List ℕ) (written₂ : ℕ) → Written out written (lineIf (room (part s at to) 6 m out written) (part s at to) 6 m v) out₂ written₂ → (q : RunAnswer) (out′ : List ℕ)
         → Runs s e rs d to (number + 1) t n written₂ out₂ q out′ → Runs s e rs d at number t n written out q out′
     runs-shows m v ex out₂ written₂ hw q out′ hr = record {
       is = λ ed ls left p el cl st ee tb ew bound eo un.
           let (sp, j, ej, en, ef) = line-is ls left p el st ee tb in
-          let (w, hs, er, es) = shows-step (part s at to) number st m v (sp .line) (subst (EffectOf (part s at to) (sp .line) (st .ellipsoid) (st .known)) ex ef) in
-          let hw′ = subst (λ z. Written z (length (st .text)) (lineIf (room (part s at to) 6 m z (length (st .text))) (part s at to) 6 m v) out₂ written₂) eo (subst (λ z. Written out z (lineIf (room (part s at to) 6 m out z) (part s at to) 6 m v) out₂ written₂) ew hw) in
-          let (eo₂, ew₂) = line-laid (part s at to) 6 w m er v (st .text) d out₂ written₂ (omega (arith, ed, ew, bound, high)) hw′ in
+          let (w, hs, er, es) = shows-step (part s at to) number st m v (sp .line) (subst (EffectOf (part s at to) (sp .line) (st .ellipsoid) (st .scope .known)) ex ef) in
+          let hw′ = subst (λ z. Written z (length (entryLines (st .entries))) (lineIf (room (part s at to) 6 m z (length (entryLines (st .entries)))) (part s at to) 6 m v) out₂ written₂) eo (subst (λ z. Written out z (lineIf (room (part s at to) 6 m out z) (part s at to) 6 m v) out₂ written₂) ew hw) in
+          let (eo₂, ew₂) = line-laid (part s at to) 6 w m er v (entryLines (st .entries)) d out₂ written₂ (omega (arith, ed, ew, bound, high)) hw′ in
           let len = line-length w v (word-length w (word-is (part s at to) 6 w m er)) in
           onwards q out′ ls hs st _ (sp .line) (sp .rest) (sp .all) es un (λ un′.
-          hr .is ed (sp .rest) (sp .fewer) _ (subst (λ z. readLines (sp .fewer) (number + 1) (afterPhase p (sp .line)) s z ≡ formed (sp .rest)) en (sp .goes-on)) (omega (arith, sp .one-less, cl)) _ ee tb ew₂
-          (omega (arith, ew₂, length-append (st .text) (outputLine w v), len, ew, bound, low)) eo₂ un′);
+          hr .is ed (sp .rest) (sp .fewer) _ (subst (λ z. readLines (sp .fewer) (number + 1) (afterPhase p (sp .line)) s z ≡ formed (sp .rest)) en (sp .goes-on)) (omega (arith, sp .one-less, cl)) _ ee tb (ew₂ ∙ ap length (sym (entries-last number (st .entries) w v)))
+          (omega (arith, ew₂, length-append (entryLines (st .entries)) (outputLine w v), len, ew, bound, low)) (eo₂ ∙ ap (λ (z : List ℕ). laid z d) (sym (entries-last number (st .entries) w v))) un′);
     }
 
 -- the bytes of a line are few

@@ -1,6 +1,6 @@
 -- The text of a sheet within the grammar fits 24,576 bytes: 95 lines of at most 223. Assumes nothing.
-use mathlib.Core.Path.{_≡_, refl, _∙_}
-use mathlib.Core.List.{List, [], _∷_, _++_}
+use mathlib.Core.Path.{_≡_, refl, sym, ap, _∙_}
+use mathlib.Core.List.{List, [], _∷_, _++_, append-assoc, append-nil}
 use mathlib.Core.Bool.{Bool, true, false}
 use Prim.Native.Nat.{ℕ, zero, suc, _≤_, _+_, _*_, _/_, _%_}
 use native.Mathlib.Omega.{arith}
@@ -14,9 +14,11 @@ use Rattle.sheets.specs.Text.{Word}
 use Rattle.sheets.specs.Trees.{Line, let-line, show-line, Sheet}
 use Rattle.sheets.specs.Grammar.{IsWord, IsLine, LineParts, AreLines, IsSheet, after as afterPhase}
 use Rattle.sheets.specs.Kinds.{Kind, number, angle, len, geocentric, geodetic, vector, frame, kindOf, kindName}
-use Rattle.sheets.specs.Names.{lookup, barred}
-use Rattle.sheets.specs.Output.{hex, hexDigit, field, fields, fieldsText, outputLine}
-use Rattle.sheets.specs.Machine.{Out, goes, stops, sticks, after, then, meet, eval, State, give, write, step, Ran, done, stopped, stuck, afterwards, onward, steps, start, machine}
+use Rattle.sheets.specs.Names.{lookup}
+use Rattle.sheets.specs.Scopes.{Scope, give}
+use Rattle.sheets.specs.Refusals.{Checked}
+use Rattle.sheets.specs.Output.{hex, hexDigit, field, fields, fieldsText, outputLine, Entry, shown, entryLine, entryLines}
+use Rattle.sheets.specs.Machine.{Out, goes, stops, sticks, after, then, meet, eval, State, orSticks, rescoped, write, step, Ran, done, stopped, stuck, afterwards, onward, steps, start, machine, numbered}
 use Rattle.sheets.specs.Answers.{ranText}
 
 -- ---- an output line
@@ -86,20 +88,25 @@ left-then P (goes fs x) k h = left-after P fs (k x) (h x)
 left-then P (stops fs c) k h = tt
 left-then P (sticks fs) k h = tt
 
-abbrev Longer : State → State → Type 0
-Longer s t = length (t .text) ≤ length (s .text) + 223
+-- a line more
+pub entries-last : (i : ℕ) (es : List Entry) (w : Word) (x : Value) → entryLines (es ++ (shown i w x ∷ [])) ≡ entryLines es ++ outputLine w x
+entries-last i [] w x = append-nil (outputLine w x)
+entries-last i (e ∷ es) w x = ap (λ (t : List ℕ). entryLine e ++ t) (entries-last i es w x) ∙ sym (append-assoc (entryLine e) (entryLines es) (outputLine w x))
 
-longer-give : (b : Bool) (i : ℕ) (s : State) (w : Word) (x : Value) → Left (Longer s) (give b i s w x)
-longer-give true i s w x = tt
-longer-give false i s w x = omega arith
+abbrev Longer : State → State → Type 0
+Longer s t = length (entryLines (t .entries)) ≤ length (entryLines (s .entries)) + 223
+
+longer-scope : (s : State) (c : Checked (Scope Value)) → Left (Longer s) (then (orSticks c) (rescoped s))
+longer-scope s c = left-then (Longer s) (orSticks c) _ (λ x. omega arith)
 
 longer-step : (i : ℕ) (s : State) (x : Line) → LineParts x → Left (Longer s) (step i s x)
 unfolding step
-longer-step i s (let-line w x) t = left-then (Longer s) (eval x (s .ellipsoid) (s .known)) _ (λ y. longer-give (barred w (s .known)) i s w y)
+longer-step i s (let-line w x) t = left-then (Longer s) (eval x (s .ellipsoid) (s .scope .known)) _ (λ y. longer-scope s (give (record { line = i; name = w; value = y }) (s .scope)))
 longer-step i s (show-line w) t =
-    left-then (Longer s) (meet (lookup w (s .known))) _ (λ y.
+    left-then (Longer s) (meet (lookup w (s .scope .known))) _ (λ y.
     let h = line-length w y (word-length w t) in
-    let k = length-append (s .text) (outputLine w y) in
+    let k = length-append (entryLines (s .entries)) (outputLine w y) in
+    let m = ap length (entries-last i (s .entries) w y) in
     omega arith)
 
 -- ---- a sheet
@@ -109,17 +116,17 @@ afterwards-text fs (done hs s) = refl
 afterwards-text fs (stopped hs c i s) = refl
 afterwards-text fs (stuck hs i s) = refl
 
-onward-text : (o : Out State) (i : ℕ) (s : State) (k : State → Ran) (m : ℕ) → Left (Longer s) o → ((t : State) → length (ranText (k t)) ≤ length (t .text) + m)
-    → length (ranText (onward o i s k)) ≤ length (s .text) + (223 + m)
+onward-text : (o : Out State) (i : ℕ) (s : State) (k : State → Ran) (m : ℕ) → Left (Longer s) o → ((t : State) → length (ranText (k t)) ≤ length (entryLines (t .entries)) + m)
+    → length (ranText (onward o i s k)) ≤ length (entryLines (s .entries)) + (223 + m)
 onward-text (goes fs t) i s k m h j = let e = afterwards-text fs (k t) in let l = j t in omega arith
 onward-text (stops fs c) i s k m h j = omega arith
 onward-text (sticks fs) i s k m h j = omega arith
 
-steps-text : (xs : List Line) (i p : ℕ) (s : State) → AreLines p xs → length (ranText (steps xs i s)) ≤ length (s .text) + 223 * length xs
+steps-text : (xs : List Line) (i p : ℕ) (s : State) → AreLines p xs → length (ranText (steps (numbered i xs) s)) ≤ length (entryLines (s .entries)) + 223 * length xs
 unfolding steps
 steps-text [] i p s t = omega arith
 steps-text (x ∷ xs) i p s t =
-    let h = onward-text (step i s x) i s (λ u. steps xs (suc i) u) (223 * length xs) (longer-step i s x (t .0 .0)) (λ u. steps-text xs (suc i) (afterPhase p x) u (t .2)) in
+    let h = onward-text (step i s x) i s (λ u. steps (numbered (suc i) xs) u) (223 * length xs) (longer-step i s x (t .0 .0)) (λ u. steps-text xs (suc i) (afterPhase p x) u (t .2)) in
     omega arith
 
 pub text-fits : (c : Sheet) (rs : List Float) → IsSheet c → length (ranText (machine c rs)) ≤ 24576

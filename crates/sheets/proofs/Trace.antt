@@ -14,9 +14,10 @@ use Rattle.sheets.specs.Trees.{Num, Expr, Exprs, word-expr, num-expr, fo
 use Rattle.sheets.specs.Letters.{Letter, 𝐧, 𝐚, 𝐥, 𝐠, 𝐝, 𝐯, 𝐟, ⟦_⟧, Holds, held, hold, both, orientations}
 use Rattle.sheets.specs.Table.{Row, on, when, table}
 use Rattle.sheets.specs.Lookup.{sameWord, shared, Hit, hit, find}
-use Rattle.sheets.specs.Names.{Known, orElse, lookup, barred, readingWords}
+use Rattle.sheets.specs.Names.{Given, Known, orElse, lookup, barred, readingWords}
+use Rattle.sheets.specs.Scopes.{giveIf, give}
 use Rattle.sheets.specs.Limits.{numValue, inLimit}
-use Rattle.sheets.specs.Machine.{Out, goes, stops, sticks, after, then, test, met, meet, made, result, provided, applyRow, eval, evals, State, give, step, Ran, done, stopped, stuck, afterwards, onward, steps, readings, start, machine}
+use Rattle.sheets.specs.Machine.{Out, goes, stops, sticks, after, then, test, met, meet, made, result, provided, applyRow, eval, evals, State, orSticks, rescoped, step, Ran, done, stopped, stuck, afterwards, onward, steps, readings, start, machine, numbered}
 use Rattle.sheets.specs.Claim.{All, framesMade}
 
 each-append : {A : Type 0} (P : A → Type 0) (xs ys : List A) → All P xs → All P ys → All P (xs ++ ys)
@@ -154,7 +155,7 @@ module _ (Good : Value → Type 0) (Fine : LocalFrame → Type 0) (nums : (q : N
   good-test fs false x h i = h
 
   abbrev GoodKnown : Known Value → Type 0
-  GoodKnown ps = All (λ p. Good (p .1)) ps
+  GoodKnown ps = All (λ g. Good (g .value)) ps
 
   abbrev GoodFound : Option Value → Type 0
   GoodFound none = Unit {0}
@@ -162,9 +163,9 @@ module _ (Good : Value → Type 0) (Fine : LocalFrame → Type 0) (nums : (q : N
 
   good-lookup : (w : Word) (ps : Known Value) → GoodKnown ps → GoodFound (lookup w ps)
   good-lookup w [] h = tt
-  good-lookup w (p ∷ ps) h = go (sameWord w (p .0)) (lookup w ps) (good-lookup w ps (h .1))
+  good-lookup w (p ∷ ps) h = go (sameWord w (p .name)) (lookup w ps) (good-lookup w ps (h .1))
     where
-      go : (b : Bool) (o : Option Value) → GoodFound o → GoodFound (orElse b (p .1) o)
+      go : (b : Bool) (o : Option Value) → GoodFound o → GoodFound (orElse b (p .value) o)
       go true o i = h .0
       go false o i = i
 
@@ -200,17 +201,17 @@ module _ (Good : Value → Type 0) (Fine : LocalFrame → Type 0) (nums : (q : N
         good-then (All Good) (All Good) (evals xs e ps) _ (good-evals xs e ps h) (λ ys j. ((i, j), tt)))
 
   abbrev GoodState : State → Type 0
-  GoodState s = GoodKnown (s .known)
+  GoodState s = GoodKnown (s .scope .known)
 
-  good-give : (b : Bool) (i : ℕ) (s : State) (w : Word) (x : Value) → GoodState s → Good x → GoodOut GoodState (give b i s w x)
-  good-give true i s w x h j = tt
-  good-give false i s w x h j = ((j, h), tt)
+  good-give : (b : Bool) (g : Given Value) (s : State) → GoodState s → Good (g .value) → GoodOut GoodState (then (orSticks (giveIf b g (s .scope))) (rescoped s))
+  good-give true g s h j = tt
+  good-give false g s h j = ((j, h), tt)
 
   good-step : (i : ℕ) (s : State) (x : Line) → GoodState s → GoodOut GoodState (step i s x)
   unfolding step
   good-step i s (let-line w x) h =
-      good-then Good GoodState (eval x (s .ellipsoid) (s .known)) _ (good-eval x (s .ellipsoid) (s .known) h) (λ y j. good-give (barred w (s .known)) i s w y h j)
-  good-step i s (show-line w) h = good-then Good GoodState (meet (lookup w (s .known))) _ (good-meet (lookup w (s .known)) (good-lookup w (s .known) h)) (λ y j. (h, tt))
+      good-then Good GoodState (eval x (s .ellipsoid) (s .scope .known)) _ (good-eval x (s .ellipsoid) (s .scope .known) h) (λ y j. good-give (barred w (s .scope .known)) (record { line = i; name = w; value = y }) s h j)
+  good-step i s (show-line w) h = good-then Good GoodState (meet (lookup w (s .scope .known))) _ (good-meet (lookup w (s .scope .known)) (good-lookup w (s .scope .known) h)) (λ y j. (h, tt))
 
   good-afterwards : (fs : List LocalFrame) (r : Ran) → All Fine fs → All Fine (framesMade r) → All Fine (framesMade (afterwards fs r))
   good-afterwards fs (done hs s) h i = each-append Fine fs hs h i
@@ -222,7 +223,7 @@ module _ (Good : Value → Type 0) (Fine : LocalFrame → Type 0) (nums : (q : N
   good-onward (stops fs c) i s k h j = h
   good-onward (sticks fs) i s k h j = h
 
-  good-steps : (xs : List Line) (i : ℕ) (s : State) → GoodState s → All Fine (framesMade (steps xs i s))
+  good-steps : (xs : List Line) (i : ℕ) (s : State) → GoodState s → All Fine (framesMade (steps (numbered i xs) s))
   unfolding steps
   good-steps [] i s h = tt
   good-steps (x ∷ xs) i s h = good-onward (step i s x) i s _ (good-step i s x h) (λ t j. good-steps xs (suc i) t j)

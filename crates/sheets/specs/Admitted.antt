@@ -4,7 +4,7 @@ use mathlib.Core.Logic.{_⊎_}
 use mathlib.Core.List.{List, [], _∷_}
 use mathlib.Core.Option.{some}
 use mathlib.Core.Bool.{false}
-use Prim.Native.Nat.{ℕ}
+use Prim.Native.Nat.{ℕ, suc}
 use Rattle.sheets.specs.Text.{Word}
 use Rattle.sheets.specs.Trees.{Num, Expr, Exprs, word-expr, num-expr, form-expr, nil, _▸_, Line, let-line, show-line}
 use Rattle.sheets.specs.Kinds.{Kind, number, kindCode}
@@ -27,9 +27,9 @@ abbrev mutual
   HaveKinds nil ks js = [] ≡ js
   HaveKinds (x ▸ xs) ks js = (j : Kind) × (is : List Kind) × HasKind x ks j × HaveKinds xs ks is × (j ∷ is ≡ js)
 
--- these lines, where the words ks are known, with these kind codes: a let gives a word that is neither an operator's nor known, a show's word is known
-abbrev pub LinesFit : Known Kind → List Line → List ℕ → Type 0
-LinesFit ks [] cs = [] ≡ cs
-LinesFit ks (let-line w x ∷ ls) cs =
-    (k : Kind) × (ds : List ℕ) × HasKind x ks k × (opens table w ≡ false) × (knows w ks ≡ false) × LinesFit ((w, k) ∷ ks) ls ds × (kindCode k ∷ ds ≡ cs)
-LinesFit ks (show-line w ∷ ls) cs = (k : Kind) × (ds : List ℕ) × (lookup w ks ≡ some k) × LinesFit ks ls ds × (kindCode k ∷ ds ≡ cs)
+-- these lines from line i on, where the words ks are known, with these kind codes: a let gives a word that is neither an operator's nor known, a show's word is known
+abbrev pub LinesFit : ℕ → Known Kind → List Line → List ℕ → Type 0
+LinesFit i ks [] cs = [] ≡ cs
+LinesFit i ks (let-line w x ∷ ls) cs =
+    (k : Kind) × (ds : List ℕ) × HasKind x ks k × (opens table w ≡ false) × (knows w ks ≡ false) × LinesFit (suc i) (record { line = i; name = w; value = k } ∷ ks) ls ds × (kindCode k ∷ ds ≡ cs)
+LinesFit i ks (show-line w ∷ ls) cs = (k : Kind) × (ds : List ℕ) × (lookup w ks ≡ some k) × LinesFit (suc i) ks ls ds × (kindCode k ∷ ds ≡ cs)

@@ -13,6 +13,7 @@ use Rattle.sheets.specs.Refusals.{Refusal, size, lent, form, ellipsoid, 
 pub use Rattle.sheets.specs.declared.answers.CheckAnswer.{CheckAnswer}
 pub use Rattle.sheets.specs.declared.answers.RunAnswer.{RunAnswer}
 use Rattle.sheets.specs.Machine.{State, Ran, done, stopped, stuck, machine}
+use Rattle.sheets.specs.Output.{entryLines}
 use Rattle.sheets.specs.Check.{Walked, passes, refuses, walk}
 
 -- ---- refusals 1 to 6
@@ -83,13 +84,13 @@ kindsAfter s kinds = kindsOfVerdict (verdict (lentKinds kinds) s) kinds
 
 -- the machine's number, line and count of bytes (a sheet that is admitted never sticks)
 abbrev pub ranAnswer : Ran → RunAnswer
-ranAnswer (done fs s) = record { number = 0; line = 0; written = length (s .text) }
-ranAnswer (stopped fs r i s) = record { number = refusalNumber (stop r); line = i; written = length (s .text) }
+ranAnswer (done fs s) = record { number = 0; line = 0; written = length (entryLines (s .entries)) }
+ranAnswer (stopped fs r i s) = record { number = refusalNumber (stop r); line = i; written = length (entryLines (s .entries)) }
 ranAnswer (stuck fs i s) = record { number = 0; line = i; written = 0 }
 
 abbrev pub ranText : Ran → List ℕ
-ranText (done fs s) = s .text
-ranText (stopped fs r i s) = s .text
+ranText (done fs s) = entryLines (s .entries)
+ranText (stopped fs r i s) = entryLines (s .entries)
 ranText (stuck fs i s) = []
 
 abbrev pub runOf : Verdict → List Float → RunAnswer

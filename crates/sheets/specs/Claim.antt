@@ -17,9 +17,10 @@ use Rattle.frames.specs.declared.frame.LocalFrame.{LocalFrame}
 use Rattle.sheets.specs.declared.value.Value.{Value}
 use Rattle.sheets.specs.Trees.{Sheet}
 use Rattle.sheets.specs.Grammar.{Written}
+use Rattle.sheets.specs.Names.{Given}
 use Rattle.sheets.specs.Kinds.{kindOf, kindCode}
 use Rattle.sheets.specs.Refusals.{Fault, refusalNumber, fault}
-use Rattle.sheets.specs.Machine.{Given, State, Ran, done, stopped, stuck, machine}
+use Rattle.sheets.specs.Machine.{State, Ran, done, stopped, stuck, machine}
 use Rattle.sheets.specs.Check.{readingKinds}
 use Rattle.sheets.specs.Admitted.{LinesFit}
 use Rattle.sheets.specs.Answers.{sized, ranged, laid, CheckAnswer, RunAnswer, ranAnswer, ranText}
@@ -29,7 +30,7 @@ pub record Admits (S : List ℕ) (c : Sheet) (codes : List ℕ) : Type 0 where
   pub size : sized S ≡ true
   pub grammar : Written S c
   pub range : ranged (c .head) ≡ true
-  pub names-and-kinds : LinesFit readingKinds (c .lines) codes
+  pub names-and-kinds : LinesFit 2 readingKinds (c .lines) codes
 
 -- ---- of a run of the machine
 
@@ -39,9 +40,9 @@ Unstuck (stopped fs r i s) = Unit {0}
 Unstuck (stuck fs i s) = ⊥
 
 abbrev pub namesGiven : Ran → List (Given Value)
-namesGiven (done fs s) = s .given
-namesGiven (stopped fs r i s) = s .given
-namesGiven (stuck fs i s) = s .given
+namesGiven (done fs s) = s .scope .given
+namesGiven (stopped fs r i s) = s .scope .given
+namesGiven (stuck fs i s) = s .scope .given
 
 abbrev pub framesMade : Ran → List LocalFrame
 framesMade (done fs s) = fs

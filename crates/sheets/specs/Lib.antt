@@ -5,10 +5,11 @@ pub mod Kinds
 pub mod Letters
 pub mod Table
 pub mod Lookup
+pub mod Refusals
 pub mod Names
+pub mod Scopes
 pub mod Limits
 pub mod Output
-pub mod Refusals
 pub mod Machine
 pub mod Check
 pub mod Admitted

@@ -15,10 +15,11 @@ use Rattle.sheets.specs.Text.{Word}
 use Rattle.sheets.specs.Trees.{Num, Expr, Exprs, word-expr, num-expr, form-expr, nil, _▸_, Line, let-line, show-line, Head, wgs84, custom, Sheet}
 use Rattle.sheets.specs.Table.{Row, on, table}
 use Rattle.sheets.specs.Lookup.{Hit, find}
-use Rattle.sheets.specs.Names.{Known, lookup, barred, readingWords}
+use Rattle.sheets.specs.Names.{Given, Known, lookup, readingWords}
+use Rattle.sheets.specs.Scopes.{Scope, opened, give}
 use Rattle.sheets.specs.Limits.{numValue, inLimit}
-use Rattle.sheets.specs.Output.{outputLine}
-use Rattle.sheets.specs.Refusals.{Stop, limit, centre}
+use Rattle.sheets.specs.Output.{Entry, shown}
+use Rattle.sheets.specs.Refusals.{Stop, limit, centre, Checked, fine, bad}
 
 -- what a step comes to, with the frames that it made: it goes on with a result, refusal 7 or 8 stops it, or it sticks
 pub data Out (A : Type 0) : Type 0 where
@@ -35,6 +36,11 @@ abbrev pub then : {A B : Type 0} → Out A → (A → Out B) → Out B
 then (goes fs x) k = after fs (k x)
 then (stops fs r) k = stops fs r
 then (sticks fs) k = sticks fs
+
+-- it sticks where the check meets a fault
+abbrev pub orSticks : {A : Type 0} → Checked A → Out A
+orSticks (fine x) = goes [] x
+orSticks (bad f) = sticks []
 
 -- ---- expressions
 
@@ -86,37 +92,22 @@ unfoldable mutual
 
 -- ---- lines
 
--- a name that a let gave, with its line
-pub record Given (A : Type 0) : Type 0 where
-  pub line : ℕ
-  pub name : Word
-  pub value : A
-
--- The ellipsoid, the known words with values, and the text written. Nothing depends on the last two: the names given, the newest first, and the value of each line from line 2.
+-- the ellipsoid, what the lines done leave to those after them, and what the output lines show
 pub record State : Type 0 where
   pub ellipsoid : Ellipsoid
-  pub known : Known Value
-  pub text : List ℕ
-  pub given : List (Given Value)
-  pub values : List Value
+  pub scope : Scope Value
+  pub entries : List Entry
 
-abbrev pub give : Bool → ℕ → State → Word → Value → Out State
-give true i s w x = sticks []
-give false i s w x = goes [] (record {
-  ellipsoid = s .ellipsoid;
-  known = (w, x) ∷ s .known;
-  text = s .text;
-  given = record { line = i; name = w; value = x } ∷ s .given;
-  values = s .values ++ (x ∷ []);
-})
+abbrev pub rescoped : State → Scope Value → Out State
+rescoped s c = goes [] (record { ellipsoid = s .ellipsoid; scope = c; entries = s .entries })
 
-abbrev pub write : State → Word → Value → State
-write s w x = record { ellipsoid = s .ellipsoid; known = s .known; text = s .text ++ outputLine w x; given = s .given; values = s .values ++ (x ∷ []) }
+abbrev pub write : ℕ → State → Word → Value → State
+write i s w x = record { ellipsoid = s .ellipsoid; scope = s .scope; entries = s .entries ++ (shown i w x ∷ []) }
 
 -- line i: a let's expression is read before its name is given
 unfoldable pub step : ℕ → State → Line → Out State
-step i s (let-line w x) = then (eval x (s .ellipsoid) (s .known)) (λ y. give (barred w (s .known)) i s w y)
-step i s (show-line w) = then (meet (lookup w (s .known))) (λ y. goes [] (write s w y))
+step i s (let-line w x) = then (eval x (s .ellipsoid) (s .scope .known)) (λ y. then (orSticks (give (record { line = i; name = w; value = y }) (s .scope))) (rescoped s))
+step i s (show-line w) = then (meet (lookup w (s .scope .known))) (λ y. goes [] (write i s w y))
 
 -- ---- a sheet
 
@@ -136,10 +127,17 @@ onward (goes fs t) i s k = afterwards fs (k t)
 onward (stops fs r) i s k = stopped fs r i s
 onward (sticks fs) i s k = stuck fs i s
 
--- the lines from line i on
-unfoldable pub steps : List Line → ℕ → State → Ran
-steps [] i s = done [] s
-steps (x ∷ xs) i s = onward (step i s x) i s (λ t. steps xs (suc i) t)
+-- a line with its number, and lines counted from i on
+abbrev pub Numbered : Type 0
+Numbered = ℕ × Line
+
+abbrev pub numbered : ℕ → List Line → List Numbered
+numbered i [] = []
+numbered i (l ∷ ls) = (i, l) ∷ numbered (suc i) ls
+
+unfoldable pub steps : List Numbered → State → Ran
+steps [] s = done [] s
+steps (l ∷ ls) s = onward (step (l .0) s (l .1)) (l .0) s (λ t. steps ls t)
 
 -- line 1
 unfoldable pub surface : Head → Ellipsoid
@@ -149,11 +147,11 @@ surface (custom q r) = surfaceOf (metres (numValue q)) (numValue r)
 -- r0 to r15 hold the readings (one that is lacking counts as 0: a run has all sixteen)
 abbrev pub readings : List Word → List Float → Known Value
 readings [] rs = []
-readings (w ∷ ws) [] = (w, Number (num 0)) ∷ readings ws []
-readings (w ∷ ws) (r ∷ rs) = (w, Number r) ∷ readings ws rs
+readings (w ∷ ws) [] = record { line = 0; name = w; value = Number (num 0) } ∷ readings ws []
+readings (w ∷ ws) (r ∷ rs) = record { line = 0; name = w; value = Number r } ∷ readings ws rs
 
 abbrev pub start : Head → List Float → State
-start h rs = record { ellipsoid = surface h; known = readings readingWords rs; text = []; given = []; values = [] }
+start h rs = record { ellipsoid = surface h; scope = opened (readings readingWords rs); entries = [] }
 
 unfoldable pub machine : Sheet → List Float → Ran
-machine c rs = steps (c .lines) 2 (start (c .head) rs)
+machine c rs = steps (numbered 2 (c .lines)) (start (c .head) rs)

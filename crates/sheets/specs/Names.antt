@@ -2,13 +2,20 @@
 use mathlib.Core.List.{List, [], _∷_}
 use mathlib.Core.Option.{Option, none, some}
 use mathlib.Core.Bool.{Bool, true, false, _||_}
+use Prim.Native.Nat.{ℕ}
 use Rattle.sheets.specs.Text.{Word, ascii}
 use Rattle.sheets.specs.Table.{table}
 use Rattle.sheets.specs.Lookup.{sameWord, opens}
 
--- known words, the newest first, each with what it stands for
+-- a word with what it stands for, and the line of the let that gave it (a reading: 0)
+pub record Given (A : Type 0) : Type 0 where
+  pub line : ℕ
+  pub name : Word
+  pub value : A
+
+-- known words, the newest first
 abbrev pub Known : Type 0 → Type 0
-Known A = List (Word × A)
+Known A = List (Given A)
 
 abbrev pub orElse : {A : Type 0} → Bool → A → Option A → Option A
 orElse true x o = some x
@@ -17,11 +24,11 @@ orElse false x o = o
 -- what a word stands for
 abbrev pub lookup : {A : Type 0} → Word → Known A → Option A
 lookup w [] = none
-lookup w (p ∷ ps) = orElse (sameWord w (p .0)) (p .1) (lookup w ps)
+lookup w (g ∷ gs) = orElse (sameWord w (g .name)) (g .value) (lookup w gs)
 
 abbrev pub knows : {A : Type 0} → Word → Known A → Bool
 knows w [] = false
-knows w (p ∷ ps) = sameWord w (p .0) || knows w ps
+knows w (g ∷ gs) = sameWord w (g .name) || knows w gs
 
 -- a word that cannot be given: an operator's, or one that is known
 abbrev pub barred : {A : Type 0} → Word → Known A → Bool

@@ -8,6 +8,7 @@ use lib.ListN.{length, getD}
 use lib.Ieee.{Float}
 use Rattle.numbers.specs.Ops.{num}
 use Rattle.frames.specs.declared.ellipsoid.Ellipsoid.{Ellipsoid}
+use Rattle.sheets.specs.Output.{entryLines}
 use Rattle.sheets.specs.declared.value.Value.{Value}
 use Rattle.sheets.specs.declared.value.Value.the-variants.{Number}
 use Rattle.sheets.specs.declared.value.Slot.{Slot}
@@ -20,7 +21,7 @@ use Rattle.sheets.specs.code.Reader.{got, readWord, readLine, formed, re
 use Rattle.sheets.specs.Names.{Known, lookup}
 use Rattle.sheets.specs.Table.{when}
 use Rattle.sheets.specs.Refusals.{stop, refusalNumber}
-use Rattle.sheets.specs.Machine.{Out, goes, stops, sticks, meet, eval, State, steps}
+use Rattle.sheets.specs.Machine.{Out, goes, stops, sticks, meet, eval, State, steps, numbered}
 use Rattle.sheets.specs.declared.answers.RunAnswer.{RunAnswer}
 use Rattle.sheets.specs.Answers.{laid, ranAnswer, ranText}
 use Rattle.sheets.specs.Claim.{Unstuck}
@@ -89,6 +90,6 @@ pub record EffectWith (l : List ℕ) (e : Ellipsoid) (ks : List ℕ) (fs : List 
 -- From line `number` on, where n words are in the table t, and `out`, at first d, holds the text written: the run answers r and leaves out′.
 pub record Runs (s : List ℕ) (e : Ellipsoid) (rs : List Float) (d : List ℕ) (at number : ℕ) (t : List Slot) (n written : ℕ) (out : List ℕ) (r : RunAnswer) (out′ : List ℕ) : Type 0 where
   pub is : length d ≡ 24576 → (ls : List Line) (left p : ℕ) → readLines left number p s at ≡ formed ls → number + left ≡ 97
-      → (st : State) → st .ellipsoid ≡ e → Tabled (st .known) t n rs → written ≡ length (st .text) → written ≤ 223 * (number - 2) → out ≡ laid (st .text) d
-      → Unstuck (steps ls number st)
-      → (r ≡ ranAnswer (steps ls number st)) × (out′ ≡ laid (ranText (steps ls number st)) d)
+      → (st : State) → st .ellipsoid ≡ e → Tabled (st .scope .known) t n rs → written ≡ length (entryLines (st .entries)) → written ≤ 223 * (number - 2) → out ≡ laid (entryLines (st .entries)) d
+      → Unstuck (steps (numbered number ls) st)
+      → (r ≡ ranAnswer (steps (numbered number ls) st)) × (out′ ≡ laid (ranText (steps (numbered number ls) st)) d)

@@ -6,6 +6,7 @@ use mathlib.Core.Bool.{Bool, true, false}
 use mathlib.Core.List.{List, _∷_}
 use lib.Dec.{eqb}
 use lib.ListN.{length, getD, take}
+use Rattle.sheets.specs.Machine.{numbered}
 use Rattle.sheets.specs.Text.{Word}
 use Rattle.sheets.specs.Trees.{Expr, Exprs, Line, let-line, show-line}
 use Rattle.sheets.specs.Grammar.{IsWord}
@@ -16,8 +17,8 @@ use Rattle.sheets.specs.Table.{when}
 use Rattle.sheets.specs.Names.{Known, lookup, barred}
 use Rattle.sheets.specs.code.Newest.{newestOf, Newest}
 use Rattle.sheets.specs.code.KindCodes.{keyFrom, kindOr255}
-use Rattle.sheets.specs.Refusals.{name, Refusal, fault, refusalNumber}
-use Rattle.sheets.specs.Check.{Checked, fine, bad, thenᶜ, known?, kindOfExpr, kindsOfExprs, Walked, passes, refuses, stepsᶜ, readingKinds, startᶜ}
+use Rattle.sheets.specs.Refusals.{name, Refusal, fault, refusalNumber, Checked, fine, bad, thenᶜ, known?}
+use Rattle.sheets.specs.Check.{kindOfExpr, kindsOfExprs, Walked, passes, refuses, stepsᶜ, readingKinds, startᶜ}
 use Rattle.sheets.specs.Answers.{Verdict, admitted, refused}
 use Rattle.sheets.specs.declared.kind_walk.KindRead.{KindRead}
 use Rattle.sheets.specs.declared.kind_walk.KeyRead.{KeyRead}
@@ -119,7 +120,7 @@ Walks (refuses f j) a = Refusing (fault f) j a
 
 -- a answers the lines from line 2, which stands at this place
 pub record LinesWalk (s : List ℕ) (at : ℕ) (a : Admission) : Type 0 where
-  pub is : (ls : List Line) → readLines 95 2 0 s at ≡ formed ls → Walks (stepsᶜ ls 2 startᶜ) a
+  pub is : (ls : List Line) → readLines 95 2 0 s at ≡ formed ls → Walks (stepsᶜ (numbered 2 ls) startᶜ) a
 
 -- a answers a whole sheet: refusals 3 to 6, or the kind code of each line
 unfoldable pub Admits : Verdict → Admission → Type 0

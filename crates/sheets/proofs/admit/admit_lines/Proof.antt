@@ -5,6 +5,7 @@ use mathlib.Core.Path.{_≡_, refl}
 use mathlib.Core.List.{List}
 use lib.ListN.{length, length-set}
 use borrow.Author.Needs.{needs}
+use Rattle.sheets.specs.Machine.{numbered}
 use Rattle.sheets.specs.Trees.{Line}
 use Rattle.sheets.specs.code.Reader.{formed, readLines}
 use Rattle.sheets.specs.Check.{stepsᶜ, startᶜ}
@@ -14,7 +15,7 @@ use Rattle.sheets.proofs.admit.admit_lines.Tie as tie
 
 abbrev Inv-loop : tie.InvT-loop
 Inv-loop s start words₀ codes₀ newest₀ passed₀ at₀ words codes newest passed at =
-    (passed ≤ 95) × (length words ≡ 96) × (length codes ≡ 96) × ((ls : List Line) → readLines 95 2 0 s start ≡ formed ls → Midway s at passed words codes newest (stepsᶜ ls 2 startᶜ))
+    (passed ≤ 95) × (length words ≡ 96) × (length codes ≡ 96) × ((ls : List Line) → readLines 95 2 0 s start ≡ formed ls → Midway s at passed words codes newest (stepsᶜ (numbered 2 ls) startᶜ))
 
 abbrev μ-loop : tie.MeasureT-loop
 μ-loop s start words₀ codes₀ newest₀ passed₀ at₀ words codes newest passed at = 95 - passed
