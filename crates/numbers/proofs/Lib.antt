@@ -15,6 +15,9 @@ pub mod Bounds
 pub mod WholeLaw
 pub mod CeilLaw
 pub mod Range
+pub mod Modulo
+pub mod Values
+pub mod RemLaws
 pub mod FitLaws
 pub mod AngleLaws
 pub mod VecLaws

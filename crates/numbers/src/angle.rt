@@ -2,6 +2,7 @@
 use crate::float::abs;
 use crate::float::to_degrees;
 use crate::float::to_radians;
+use crate::remainder::remainder;
 ghost use mathlib.Core.Path.{_≡_};
 ghost use lib.Ieee as Ieee;
 ghost use Rattle.numbers.specs.Ops.{_⊕_, num, pick};
@@ -96,10 +97,10 @@ fn normalised_radians(radians: f64, max: f64) -> f64
         if radians < max {
             radians
         } else {
-            lifted(radians % max, max)
+            lifted(remainder(radians, max), max)
         }
     } else {
-        lifted(radians % max, max)
+        lifted(remainder(radians, max), max)
     }
 }
 

@@ -1,9 +1,10 @@
 // The bits of a double, the smaller methods of f64 that the Rust uses, and the double of a decimal numeral.
+use crate::remainder::remainder;
 ghost use mathlib.Core.Path.{_≡_};
 ghost use Prim.Native.Nat.{_≤_, _<_, _^_};
 ghost use lib.Ieee.{binary64, ofBits, toBits};
 ghost use Rattle.numbers.specs.Floats as Floats;
-ghost use Rattle.numbers.specs.Floats.{signDigit, clampUnit, toRadians, toDegrees, remainder, nearest};
+ghost use Rattle.numbers.specs.Floats.{signDigit, clampUnit, toRadians, toDegrees, nearest};
 
 const PI: f64 = 3.141592653589793;
 
@@ -76,9 +77,9 @@ pub fn to_degrees(x: f64) -> f64
 
 // Rust's `%`.
 pub fn rem(x: f64, y: f64) -> f64
-    ensures { λ r. ⌜ r ≡ remainder x y ⌝ }
+    ensures { λ r. ⌜ r ≡ Floats.remainder x y ⌝ }
 {
-    x % y
+    remainder(x, y)
 }
 
 // The double nearest to digits / tens, ties to even, negated where `negative`. Digits and tens are doubles exactly.
