@@ -1,20 +1,20 @@
 -- The line that the check or the run answers is at most 97, so that 32 bits hold it. Assumes nothing.
 use Prim.Native.Nat.{ℕ, zero, suc, _+_, _≤_}
 use native.Mathlib.Omega.{arith}
-use mathlib.Core.Path.{_≡_, refl, sym, ap}
+use mathlib.Core.Path.{_≡_}
 use mathlib.Core.Bool.{Bool, true, false}
 use mathlib.Core.List.{List, [], _∷_}
 use lib.Dec.{leb}
 use lib.ListN.{length}
 use lib.Ieee.{Float}
 use Rattle.frames.specs.declared.frame.LocalFrame.{LocalFrame}
-use Rattle.sheets.specs.Trees.{Line, Head, Sheet}
+use Rattle.sheets.specs.Trees.{Line, Head, Sheet, numbered}
 use Rattle.sheets.specs.Grammar.{after}
 use Rattle.sheets.specs.code.Reader.{Got, none, got, Form, formed, badLine, _thenᶠ_, linesStep, readIn, readLines, sheetStep, readHead, readSheet}
-use Rattle.sheets.specs.Check.{Checked, fine, bad, Stateᶜ, stepᶜ, Walked, passes, refuses, onwardᶜ, stepsᶜ, startᶜ, walk}
+use Rattle.sheets.specs.Refusals.{Checked, fine, bad}
+use Rattle.sheets.specs.Check.{Stateᶜ, stepᶜ, Walked, passes, refuses, onwardᶜ, stepsᶜ, startᶜ, walk}
 use Rattle.sheets.specs.Machine.{Out, goes, stops, sticks, State, step, Ran, done, stopped, stuck, afterwards, onward, steps, start, machine}
 use Rattle.sheets.specs.Answers.{sized, ranged, Verdict, admitted, refused, ofWalked, ofRange, ofForm, ofLent, ofSize, verdict, checkOf, lentKinds, checkAnswer, ranAnswer, runOf, lentRun, runAnswer}
-use Rattle.sheets.specs.Refusals.{Refusal}
 use Rattle.sheets.specs.declared.answers.CheckAnswer.{CheckAnswer}
 use Rattle.sheets.specs.declared.answers.RunAnswer.{RunAnswer}
 
@@ -74,10 +74,10 @@ unfolding Refused
 walk-onward (fine t) i m k l h = h t
 walk-onward (bad c) i m k l h = l
 
-walk-bound : (xs : List Line) (i m : ℕ) (s : Stateᶜ) → i + length xs ≤ m → Refused m (stepsᶜ xs i s)
+walk-bound : (xs : List Line) (i m : ℕ) (s : Stateᶜ) → i + length xs ≤ m → Refused m (stepsᶜ (numbered i xs) s)
 unfolding Refused stepsᶜ
 walk-bound [] i m s l = tt
-walk-bound (x ∷ xs) i m s l = walk-onward (stepᶜ i s x) i m (λ t. stepsᶜ xs (suc i) t) (omega arith) (λ t. walk-bound xs (suc i) m t (omega arith))
+walk-bound (x ∷ xs) i m s l = walk-onward (stepᶜ i s x) i m (λ t. stepsᶜ (numbered (suc i) xs) t) (omega arith) (λ t. walk-bound xs (suc i) m t (omega arith))
 
 -- ---- the machine
 
@@ -98,10 +98,10 @@ ended-onward (goes fs t) i m s k l h = ended-afterwards fs m (k t) (h t)
 ended-onward (stops fs r) i m s k l h = l
 ended-onward (sticks fs) i m s k l h = l
 
-steps-bound : (xs : List Line) (i m : ℕ) (s : State) → i + length xs ≤ m → Ended m (steps xs i s)
+steps-bound : (xs : List Line) (i m : ℕ) (s : State) → i + length xs ≤ m → Ended m (steps (numbered i xs) s)
 unfolding Ended steps
 steps-bound [] i m s l = tt
-steps-bound (x ∷ xs) i m s l = ended-onward (step i s x) i m s (λ t. steps xs (suc i) t) (omega arith) (λ t. steps-bound xs (suc i) m t (omega arith))
+steps-bound (x ∷ xs) i m s l = ended-onward (step i s x) i m s (λ t. steps (numbered (suc i) xs) t) (omega arith) (λ t. steps-bound xs (suc i) m t (omega arith))
 
 -- ---- the answers
 

@@ -8,16 +8,15 @@ use mathlib.Core.Option.{Option, none, some}
 use lib.ListN.{length, take, set, replicate}
 use lib.Seq.{take-suc-set, length-take-le}
 use Rattle.frames.specs.declared.ellipsoid.Ellipsoid.{Ellipsoid}
-use Rattle.sheets.specs.Machine.{numbered}
-use Rattle.sheets.specs.Trees.{Line, let-line, show-line, Sheet}
+use Rattle.sheets.specs.Trees.{Line, let-line, show-line, Sheet, numbered}
 use Rattle.sheets.specs.Grammar.{IsLine, after}
 use Rattle.sheets.specs.code.Codes.{codeOf}
 use Rattle.sheets.specs.code.Reader.{readLine, readHead, Form, formed, badLine, readLines, readSheet}
 use Rattle.sheets.specs.code.Views.{formOf}
 use Rattle.sheets.specs.code.FirstLines.{firstIn, firstOf}
 use Rattle.sheets.specs.Kinds.{Kind, kindCode}
-use Rattle.sheets.specs.Names.{lookup, barred}
-use Rattle.sheets.specs.Scopes.{withName, giveIf, give}
+use Rattle.sheets.specs.Names.{lookup, barred, givenOn}
+use Rattle.sheets.specs.Scopes.{withName, giveIf}
 use Rattle.sheets.specs.Refusals.{Fault, name, fault, refusalNumber, Checked, fine, bad, thenᶜ, known?}
 use Rattle.sheets.specs.Check.{kindOfExpr, Stateᶜ, noted, stepᶜ, Walked, passes, refuses, onwardᶜ, stepsᶜ, startᶜ, walk}
 use Rattle.sheets.specs.Answers.{ranged, ofWalked, ofRange, ofForm}
@@ -36,14 +35,14 @@ use Rattle.sheets.proofs.PassedLaws.{stands-given, stands-shown}
 -- ---- the state after a line whose word has the kind k
 
 abbrev stepped : ℕ → Stateᶜ → Line → Kind → Stateᶜ
-stepped i s (let-line w x) k = record { scope = withName (record { line = i; name = w; value = k }) (s .scope); codes = s .codes ++ (kindCode k ∷ []) }
+stepped i s (let-line w x) k = record { scope = withName (givenOn i w k) (s .scope); codes = s .codes ++ (kindCode k ∷ []) }
 stepped i s (show-line w) k = record { scope = s .scope; codes = s .codes ++ (kindCode k ∷ []) }
 
 step-is : (i : ℕ) (s : Stateᶜ) (l : Line) → stepᶜ i s l ≡ thenᶜ (lineKind l (s .scope .known)) (λ k. fine (stepped i s l k))
 unfolding stepᶜ lineKind
 step-is i s (let-line w x) = go (kindOfExpr x (s .scope .known)) (barred w (s .scope .known))
   where
-    go : (o : Checked Kind) (b : Bool) → thenᶜ o (λ k. thenᶜ (giveIf b (record { line = i; name = w; value = k }) (s .scope)) (noted s (kindCode k))) ≡ thenᶜ (thenᶜ o (λ k. unbarred b k)) (λ k. fine (stepped i s (let-line w x) k))
+    go : (o : Checked Kind) (b : Bool) → thenᶜ o (λ k. thenᶜ (giveIf b (givenOn i w k) (s .scope)) (noted s (kindCode k))) ≡ thenᶜ (thenᶜ o (λ k. unbarred b k)) (λ k. fine (stepped i s (let-line w x) k))
     go (fine k) true = refl
     go (fine k) false = refl
     go (bad f) b = refl

@@ -15,11 +15,11 @@ use Rattle.sheets.specs.Kinds.{Kind, number, kindOf, kindCode}
 use Rattle.sheets.specs.Letters.{Holds, hold, orientations}
 use Rattle.sheets.specs.Table.{Row, on, when, table}
 use Rattle.sheets.specs.Lookup.{sameWord, Hit, hit, find, findKind, shared}
-use Rattle.sheets.specs.Names.{Given, Known, lookup, readingWords}
+use Rattle.sheets.specs.Names.{Given, Known, lookup, readingWords, givenOn}
 use Rattle.sheets.specs.Scopes.{Scope, opened, give}
 use Rattle.sheets.specs.Limits.{numValue, inLimit}
 use Rattle.sheets.specs.Refusals.{Fault, name, kind, Checked, fine, bad, thenᶜ, known?}
-use Rattle.sheets.specs.Machine.{Out, goes, stops, sticks, after, then, orSticks, test, meet, made, result, provided, applyRow, eval, evals, State, rescoped, write, step, readings}
+use Rattle.sheets.specs.Machine.{Out, goes, stops, sticks, after, then, orSticks, test, meet, made, result, provided, applyRow, eval, evals, State, rescoped, step, readings}
 use Rattle.sheets.specs.Check.{kindOfExpr, kindsOfExprs, Stateᶜ, noted, stepᶜ, readingKinds}
 use Rattle.sheets.specs.Claim.{All}
 use Rattle.sheets.proofs.FindKind.{given, mapped, find-kind}
@@ -130,21 +130,21 @@ abbrev pub View : State → Stateᶜ → Type 0
 View s c = ScopeLike Sees (s .scope) (c .scope)
 
 -- a scope that both come to
-agree-scope : (s : State) (n : ℕ) (c : Stateᶜ) (o : Checked (Scope Value)) (p : Checked (Scope Kind)) → Match (ScopeLike Sees) o p → Agree View (then (orSticks o) (rescoped s)) (thenᶜ p (noted c n))
+agree-scope : (s : State) (n : ℕ) (c : Stateᶜ) (o : Checked (Scope Value)) (p : Checked (Scope Kind)) → Match (ScopeLike Sees) o p → Agree View (rescoped s o) (thenᶜ p (noted c n))
 agree-scope s n c o p r = agree-then (ScopeLike Sees) View (orSticks o) p _ _ (agree-sticks (ScopeLike Sees) o p r) (λ x y l. (record { scope = y; codes = _ }, refl, l))
 
 pub agree-step : (i : ℕ) (s : State) (c : Stateᶜ) (x : Line) → View s c → Agree View (step i s x) (stepᶜ i c x)
 unfolding step stepᶜ
 agree-step i s c (let-line w x) l =
     agree-then Sees View (eval x (s .ellipsoid) (s .scope .known)) (kindOfExpr x (c .scope .known)) _ _ (agree-eval x (s .ellipsoid) (s .scope .known) (c .scope .known) (l .known-like)) (λ y k r.
-    let g : Given Value = record { line = i; name = w; value = y } in
-    let h : Given Kind = record { line = i; name = w; value = k } in
+    let g : Given Value = givenOn i w y in
+    let h : Given Kind = givenOn i w k in
     agree-scope s (kindCode k) c (give g (s .scope)) (give h (c .scope)) (give-like Sees g h (s .scope) (c .scope) (refl, refl, r) l))
 agree-step i s c (show-line w) l =
     agree-then Sees View (meet (lookup w (s .scope .known))) (known? name (lookup w (c .scope .known))) _ _ (agree-word w (s .scope .known) (c .scope .known) (l .known-like)) (λ y k r. (_, refl, l))
 
 -- a reading is n
-readings-seen : (ws : List Word) (rs : List Float) → KnownLike Sees (readings ws rs) (map (λ w. record { line = 0; name = w; value = number }) ws)
+readings-seen : (ws : List Word) (rs : List Float) → KnownLike Sees (readings ws rs) (map (λ w. givenOn 0 w number) ws)
 readings-seen [] rs = tt
 readings-seen (w ∷ ws) [] = ((refl, refl, refl), readings-seen ws [])
 readings-seen (w ∷ ws) (r ∷ rs) = ((refl, refl, refl), readings-seen ws rs)

@@ -1,11 +1,11 @@
 -- The answers of the check and of the run, one law for each way out of the code. Assumes nothing.
-use Prim.Native.Nat.{ℕ, suc, _+_, _-_, _<_, _≤_}
+use Prim.Native.Nat.{ℕ, suc, _-_, _≤_}
 use native.Mathlib.Omega.{arith}
 use mathlib.Core.Path.{_≡_, refl, sym, ap, subst, _∙_}
 use mathlib.Core.Bool.{Bool, true, false, not, _&&_}
-use mathlib.Core.List.{List, [], _∷_, _++_}
-use lib.Dec.{leb, eqb}
-use lib.ListN.{length, take, drop, getD}
+use mathlib.Core.List.{List, [], _∷_}
+use lib.Dec.{eqb}
+use lib.ListN.{length, take, getD}
 use lib.Seq.{length-take-le}
 use lib.Ieee.{Float, nan}
 use borrow.Author.Tests.{eq-eqb, ne-eqb}
@@ -13,17 +13,17 @@ use Rattle.frames.specs.declared.ellipsoid.Ellipsoid.{Ellipsoid}
 use Rattle.sheets.specs.declared.admit.Admission.{Admission}
 use Rattle.sheets.specs.declared.admit.Outcome.{Outcome}
 use Rattle.sheets.specs.declared.first_line.FirstLine.{FirstLine}
-use Rattle.sheets.specs.Trees.{Head, Sheet}
+use Rattle.sheets.specs.Trees.{Sheet}
 use Rattle.sheets.specs.code.Slots.{noNames}
-use Rattle.sheets.specs.code.Reader.{Got, none, got, Form, formed, badLine, readHead, readLines, readSheet}
-use Rattle.sheets.specs.Refusals.{Refusal, size, lent, form, ellipsoid, refusalNumber}
+use Rattle.sheets.specs.code.Reader.{Form, formed, badLine, readHead, readLines, readSheet}
+use Rattle.sheets.specs.Refusals.{size, lent, refusalNumber}
 use Rattle.sheets.specs.code.FirstLines.{firstOf, firstIn}
-use Rattle.sheets.specs.code.Walking.{Admits, Passing, Refusing}
+use Rattle.sheets.specs.code.Walking.{Admits}
 use Rattle.sheets.specs.Machine.{start, surface, machine}
 use Rattle.sheets.specs.Check.{Walked, passes, refuses, walk}
 use Rattle.sheets.specs.declared.answers.CheckAnswer.{CheckAnswer}
 use Rattle.sheets.specs.declared.answers.RunAnswer.{RunAnswer}
-use Rattle.sheets.specs.Answers.{sized, ranged, Verdict, admitted, refused, ofWalked, ofRange, ofForm, ofLent, ofSize, verdict, checkOf, laid, kindsOfVerdict, lentKinds, checkAnswer, kindsAfter, ranAnswer, ranText, runOf, textOf, lentRun, runAnswer, outAfter}
+use Rattle.sheets.specs.Answers.{sized, ranged, Verdict, admitted, refused, ofWalked, ofRange, ofForm, ofLent, ofSize, verdict, checkOf, laid, kindsOfVerdict, lentKinds, checkAnswer, kindsAfter, runOf, textOf, lentRun, runAnswer, outAfter}
 use Rattle.sheets.specs.code.Writing.{writes, part}
 use Rattle.sheets.proofs.WritingLaws.{name-written, laid-first}
 use Rattle.sheets.proofs.Walks.{walk-start}

@@ -1,7 +1,6 @@
 -- Demand 3 holds of the definitions: of the check's and the run's answers over any sheet and readings, lent buffers of their lengths. Assumes nothing.
 use mathlib.Core.Path.{_≡_, refl, sym, ap, _∙_, subst}
-use mathlib.Core.Logic.{_↔_}
-use mathlib.Core.List.{List, [], _∷_, _++_, map}
+use mathlib.Core.List.{List, [], _∷_, _++_}
 use mathlib.Core.Bool.{Bool, true, false, _&&_}
 use Prim.Native.Nat.{ℕ, suc, _+_, _-_, _≤_, _<_}
 use native.Mathlib.Omega.{arith}
@@ -14,18 +13,17 @@ use Rattle.numbers.specs.declared.mat33.Mat33.{Mat33}
 use Rattle.numbers.proofs.FitLaws.{Fits}
 use Rattle.numbers.proofs.VecLaws.{FiniteVec, FiniteMat}
 use Rattle.frames.specs.declared.frame.LocalFrame.{LocalFrame}
-use Rattle.frames.proofs.FrameLaws.{Sound, FiniteFrame, Home, home}
+use Rattle.frames.proofs.FrameLaws.{Sound, Home, home}
 use Rattle.sheets.specs.declared.value.Value.{Value}
 use Rattle.sheets.specs.Trees.{Sheet}
 use Rattle.sheets.specs.Grammar.{Written}
 use Rattle.sheets.specs.code.Reader.{Form, formed, badLine, readSheet}
 use Rattle.sheets.specs.Names.{Given}
 use Rattle.sheets.specs.Kinds.{Kind, kindOf, kindCode}
-use Rattle.sheets.specs.Refusals.{Fault, name, kind, Stop, limit, centre, Refusal, size, lent, form, ellipsoid, fault, stop, refusalNumber}
-use Rattle.sheets.specs.Machine.{State, Ran, done, stopped, stuck, machine}
-use Rattle.sheets.specs.Check.{Walked, passes, refuses, readingKinds, walk}
-use Rattle.sheets.specs.Admitted.{LinesFit}
-use Rattle.sheets.specs.Answers.{sized, ranged, Verdict, admitted, refused, ofWalked, ofRange, ofForm, ofLent, ofSize, verdict, CheckAnswer, checkOf, laid, kindsOfVerdict, lentKinds, checkAnswer, kindsAfter, RunAnswer, ranAnswer, ranText, runOf, textOf, lentRun, runAnswer, outAfter}
+use Rattle.sheets.specs.Refusals.{Fault, name, kind, limit, centre, Refusal, size, lent, form, ellipsoid, fault, stop, refusalNumber}
+use Rattle.sheets.specs.Machine.{Ran, done, stopped, stuck, machine}
+use Rattle.sheets.specs.Check.{Walked, passes, refuses, walk}
+use Rattle.sheets.specs.Answers.{sized, ranged, Verdict, admitted, refused, ofWalked, ofRange, ofForm, ofSize, verdict, CheckAnswer, checkOf, laid, kindsOfVerdict, checkAnswer, kindsAfter, runOf, textOf, lentRun, runAnswer, outAfter}
 use Rattle.sheets.specs.Claim.{Admits, Unstuck, namesGiven, framesMade, All, SticksAt, FiniteVec3, FiniteMat33, FrameHolds, Claim}
 use Rattle.sheets.proofs.Alike.{KnownLike}
 use Rattle.sheets.proofs.Agree.{Sees}

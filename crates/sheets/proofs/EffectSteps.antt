@@ -4,8 +4,8 @@ use native.Mathlib.Omega.{arith}
 use mathlib.Core.Path.{_≡_, refl, sym, ap, _∙_}
 use mathlib.Core.Bool.{Bool, true, false}
 use mathlib.Core.Logic.{_⊎_, inl, inr}
-use mathlib.Core.Option.{Option, none, some}
-use mathlib.Core.List.{List, [], _∷_}
+use mathlib.Core.Option.{Option, none}
+use mathlib.Core.List.{List, []}
 use lib.Dec.{ltb}
 use lib.ListN.{length, getD}
 use lib.Ieee.{Float}
@@ -14,14 +14,14 @@ use Rattle.frames.specs.declared.ellipsoid.Ellipsoid.{Ellipsoid}
 use Rattle.sheets.specs.declared.value.Value.{Value}
 use Rattle.sheets.specs.declared.bytes.WordRead.{WordRead}
 use Rattle.sheets.specs.Text.{Word}
-use Rattle.sheets.specs.Trees.{Expr, Line, let-line, show-line}
+use Rattle.sheets.specs.Trees.{Line, let-line, show-line}
 use Rattle.sheets.specs.code.Codes.{codeOf}
 use Rattle.sheets.specs.Limits.{inLimit}
 use Rattle.sheets.specs.Names.{Known, lookup}
 use Rattle.sheets.specs.Refusals.{stop, refusalNumber}
-use Rattle.sheets.specs.code.Reader.{Got, none as noGot, got, readWord, readExpr, readLine}
+use Rattle.sheets.specs.code.Reader.{none as noGot, got, readWord, readExpr, readLine}
 use Rattle.sheets.specs.code.Views.{coded}
-use Rattle.sheets.specs.Machine.{Out, goes, stops, sticks, meet, met, test, eval}
+use Rattle.sheets.specs.Machine.{Out, goes, stops, sticks, meet, test, eval}
 use Rattle.sheets.proofs.Viewed.{coded-none, coded-got}
 use Rattle.sheets.proofs.Slices.{word-part}
 use Rattle.sheets.specs.code.Operands.{operand, foundOf, Ready}

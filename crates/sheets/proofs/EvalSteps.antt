@@ -20,7 +20,7 @@ use Rattle.sheets.specs.Limits.{inLimit}
 use Rattle.sheets.specs.Names.{Known, lookup}
 use Rattle.sheets.specs.code.Reader.{none as noGot, got, _then_, readWord, readNum, orNum, readLeaf, readExpr}
 use Rattle.sheets.specs.code.Views.{place, coded, doubled}
-use Rattle.sheets.specs.Machine.{test, met, meet, eval}
+use Rattle.sheets.specs.Machine.{met, meet, eval}
 use Rattle.sheets.proofs.ReaderLaws.{expr-leaf}
 use Rattle.sheets.proofs.Viewed.{coded-none, coded-got, doubled-none, doubled-got}
 use Rattle.sheets.proofs.Inverse.{not-read}

@@ -1,11 +1,8 @@
 -- Every frame that the machine makes is sound. The law of values: numbers, lengths and positions are of doubles, a geodetic position's n-vector went through `Vec3::new`, a frame is sound. Assumes nothing.
-use mathlib.Core.List.{List, [], _∷_}
+use mathlib.Core.List.{List}
 use lib.Ieee.{Float, binary64}
 use lib.Ieee.Fits.{round-fits}
-use Rattle.numbers.specs.Ops.{num}
 use Rattle.numbers.proofs.FitLaws.{Fits, decimal-fits}
-use Rattle.frames.specs.Positions.{geocentric}
-use Rattle.frames.specs.declared.frame.LocalFrame.{LocalFrame}
 use Rattle.frames.proofs.PositionLaws.{FitPosition, SettledPosition, geocentric-fits, geodeticToGeocentric-fits, latlong-settled, geocentricToGeodetic-settled}
 use Rattle.frames.proofs.FitLaws.{slantRange-fits}
 use Rattle.frames.proofs.FrameLaws.{Sound, enuFromGeocentric-sound, enuFromGeodetic-sound, nedFromGeocentric-sound, nedFromGeodetic-sound, wanderAzimuthFromGeocentric-sound, wanderAzimuthFromGeodetic-sound, bodyFromGeocentric-sound, bodyFromGeodetic-sound, lookingAtGeocentric-sound, lookingAtGeodetic-sound, rotateAroundZ-sound, transform-sound, frameOrigin-fits, destinationPosition-fits}

@@ -1,6 +1,5 @@
 -- The value of each row has the kind that the row gives. Assumes nothing.
 use mathlib.Core.Path.{_≡_, refl, ap}
-use mathlib.Core.List.{List, [], _∷_}
 use Rattle.frames.specs.Vectors.{fromAer, swapFrom, swap}
 use Rattle.frames.specs.Frames.{newEnu, newNed, newBody, newWanderAzimuth, enuFromGeocentric, enuFromGeodetic, nedFromGeocentric, nedFromGeodetic, wanderAzimuthFromGeocentric, wanderAzimuthFromGeodetic, bodyFromGeocentric, bodyFromGeodetic, lookingAt, lookingAtGeocentric, lookingAtGeodetic, rotateAroundZ, transform, localVectorTo}
 use Rattle.frames.specs.declared.ellipsoid.Ellipsoid.{Ellipsoid}

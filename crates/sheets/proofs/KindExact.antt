@@ -1,22 +1,22 @@
 -- The check's walk passes exactly the lines that the rules admit, with their kind codes. Assumes nothing.
 use mathlib.Core.Path.{_≡_, refl, sym, ap, ap₂, _∙_, subst}
-use mathlib.Core.Logic.{_↔_, _⊎_, inl, inr}
-use mathlib.Core.List.{List, [], _∷_, _++_, append-assoc}
+use mathlib.Core.Logic.{_↔_, inl, inr}
+use mathlib.Core.List.{List, [], _∷_}
 use mathlib.Core.Option.{Option, none, some}
-use mathlib.Core.Bool.{Bool, true, false, _&&_, _||_, true≢false}
-use Prim.Native.Nat.{ℕ, suc}
+use mathlib.Core.Bool.{Bool, true, false, _&&_}
+use Prim.Native.Nat.{ℕ}
 use lib.Dec.{T, eqb, eqb→eq}
 use Rattle.frames.specs.declared.orientation.Orientation.{Orientation}
 use Rattle.frames.specs.declared.orientation.Orientation.the-variants.{Enu, Ned, Body, Wan}
 use Rattle.sheets.specs.Text.{Word}
-use Rattle.sheets.specs.Trees.{Expr, Exprs, word-expr, num-expr, form-expr, nil, _▸_, Line, let-line, show-line, Sheet}
-use Rattle.sheets.specs.Kinds.{Kind, number, angle, len, geocentric, geodetic, vector, frame, place, kindCode, letterOf, orientationOf, sameOrientation, sameKind, sameKinds}
+use Rattle.sheets.specs.Trees.{Expr, Exprs, word-expr, num-expr, form-expr, nil, _▸_}
+use Rattle.sheets.specs.Kinds.{Kind, number, angle, len, geocentric, geodetic, vector, frame, place, letterOf, orientationOf, sameOrientation, sameKind, sameKinds}
 use Rattle.sheets.specs.Table.{when, table}
-use Rattle.sheets.specs.Lookup.{sameWord, opens, KindRow, kindRows, search, findKind}
-use Rattle.sheets.specs.Names.{Known, lookup, knows, barred}
+use Rattle.sheets.specs.Lookup.{sameWord, KindRow, kindRows, search, findKind}
+use Rattle.sheets.specs.Names.{Known, lookup}
 use Rattle.sheets.specs.Refusals.{Fault, name, kind, Checked, fine, bad, thenᶜ, known?}
-use Rattle.sheets.specs.Check.{kindOfExpr, kindsOfExprs, Stateᶜ, stepᶜ, Walked, passes, refuses, onwardᶜ, stepsᶜ, readingKinds, walk}
-use Rattle.sheets.specs.Admitted.{In, HasKind, HaveKinds, LinesFit}
+use Rattle.sheets.specs.Check.{kindOfExpr, kindsOfExprs}
+use Rattle.sheets.specs.Admitted.{In, HasKind, HaveKinds}
 
 -- ---- tests
 

@@ -20,7 +20,7 @@ use Rattle.sheets.specs.Grammar.{IsWord}
 use Rattle.sheets.specs.code.Codes.{codeOf, codeFrom, wordChar}
 use Rattle.sheets.specs.Table.{when}
 use Rattle.sheets.specs.Lookup.{sameWord}
-use Rattle.sheets.specs.Names.{Known, lookup, orElse, readingWords}
+use Rattle.sheets.specs.Names.{Known, lookup, orElse, readingWords, givenOn}
 use Rattle.sheets.specs.Machine.{readings}
 use Rattle.sheets.proofs.ReadingLaws.{codesOf, AreWords, readingCodes, readings-are}
 use Rattle.sheets.proofs.KindRowLaws.{words-agree}
@@ -122,7 +122,7 @@ slots-kept zero k h t rs y c = refl
 slots-kept (suc n) k h t rs y c = rw (getD-set-other t k (suc n) y emptySlot (λ e. omega arith), slots-kept n k (omega arith) t rs y c) refl
 
 -- a let gives the word w the value x
-pub tabled-let : (ps : Known Value) (t : List Slot) (n : ℕ) (rs : List Float) → Tabled ps t n rs → suc n < length t → (w : Word) → IsWord w → (x : Value) (y : Slot) → y .word ≡ codeOf w → y .value ≡ x → (i : ℕ) → Tabled (record { line = i; name = w; value = x } ∷ ps) (set t (suc n) y) (suc n) rs
+pub tabled-let : (ps : Known Value) (t : List Slot) (n : ℕ) (rs : List Float) → Tabled ps t n rs → suc n < length t → (w : Word) → IsWord w → (x : Value) (y : Slot) → y .word ≡ codeOf w → y .value ≡ x → (i : ℕ) → Tabled (givenOn i w x ∷ ps) (set t (suc n) y) (suc n) rs
 unfolding wordFound
 tabled-let ps t n rs tb h w iw x y ew ev i = record {
   is = λ v iv.

@@ -1,17 +1,16 @@
 -- A line that stands alone, by its places: its word, the space before its expression, its LF. Assumes nothing.
-use Prim.Native.Nat.{ℕ, zero, suc, _+_, _-_, _<_, _≤_}
+use Prim.Native.Nat.{ℕ, zero, suc, _+_, _<_, _≤_}
 use native.Mathlib.Omega.{arith}
-use native.Mathlib.Nat.{add-zero}
 use mathlib.Core.Path.{_≡_, refl, sym, ap, _∙_}
 use mathlib.Core.Bool.{Bool, true, false, cond}
 use mathlib.Core.List.{List, [], _∷_, _++_}
 use lib.Dec.{eqb}
-use lib.ListN.{length, getD, length-append}
+use lib.ListN.{length, getD}
 use borrow.Author.Tests.{eq-eqb, eqb-true, eqb-false}
-use Rattle.sheets.specs.Text.{Word, ascii, _⌢_, lf, countLF}
+use Rattle.sheets.specs.Text.{Word, lf, countLF}
 use Rattle.sheets.specs.Trees.{Expr, Line, let-line, show-line}
-use Rattle.sheets.specs.Grammar.{print, printLine, IsLine}
-use Rattle.sheets.specs.code.Reader.{Got, got, readWord, readExpr, readLine}
+use Rattle.sheets.specs.Grammar.{print, printLine}
+use Rattle.sheets.specs.code.Reader.{got, readWord, readExpr, readLine}
 use Rattle.sheets.proofs.Spans.{Spans, spans-split, spans-end, holds-at}
 use Rattle.sheets.proofs.TokenLaws.{word-complete}
 use Rattle.sheets.proofs.ExprLaws.{expr-complete}

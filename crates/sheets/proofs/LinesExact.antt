@@ -1,19 +1,17 @@
 -- The check's walk passes a sheet's lines exactly where the rules admit them, with their kind codes. Assumes nothing.
 use mathlib.Core.Path.{_≡_, refl, sym, ap, ap₂, _∙_, subst}
-use mathlib.Core.Logic.{_↔_}
 use mathlib.Core.List.{List, [], _∷_, _++_, append-assoc, append-nil}
 use mathlib.Core.Option.{Option, none, some}
 use mathlib.Core.Bool.{Bool, true, false, _||_}
 use Prim.Native.Nat.{ℕ, suc}
 use Rattle.sheets.specs.Text.{Word}
-use Rattle.sheets.specs.Trees.{Expr, Line, let-line, show-line, Sheet}
+use Rattle.sheets.specs.Trees.{Expr, Line, let-line, show-line, Sheet, numbered}
 use Rattle.sheets.specs.Kinds.{Kind, kindCode}
 use Rattle.sheets.specs.Table.{table}
 use Rattle.sheets.specs.Lookup.{opens}
-use Rattle.sheets.specs.Names.{Given, Known, lookup, knows, barred}
+use Rattle.sheets.specs.Names.{lookup, knows, givenOn}
 use Rattle.sheets.specs.Scopes.{withName, giveIf, give}
 use Rattle.sheets.specs.Refusals.{name, Checked, fine, bad, thenᶜ, known?}
-use Rattle.sheets.specs.Machine.{numbered}
 use Rattle.sheets.specs.Check.{kindOfExpr, Stateᶜ, noted, stepᶜ, Walked, passes, refuses, onwardᶜ, stepsᶜ, readingKinds, startᶜ, walk}
 use Rattle.sheets.specs.Admitted.{HasKind, LinesFit}
 use Rattle.sheets.proofs.KindExact.{kind-exact}
@@ -26,7 +24,7 @@ Passing i s xs (refuses f j) = Unit {0}
 
 -- the state after a let, and after a show
 abbrev givenState : ℕ → Stateᶜ → Word → Kind → Stateᶜ
-givenState i s w k = record { scope = withName (record { line = i; name = w; value = k }) (s .scope); codes = s .codes ++ (kindCode k ∷ []) }
+givenState i s w k = record { scope = withName (givenOn i w k) (s .scope); codes = s .codes ++ (kindCode k ∷ []) }
 
 abbrev shownState : Stateᶜ → Kind → Stateᶜ
 shownState s k = record { scope = s .scope; codes = s .codes ++ (kindCode k ∷ []) }
@@ -49,13 +47,13 @@ passing [] i s = ([], sym (append-nil (s .codes)), refl)
 passing (let-line w x ∷ xs) i s = go (λ k. passing xs (suc i) (givenState i s w k)) (kindOfExpr x (s .scope .known)) (λ k e. kind-exact x (s .scope .known) k .0 e)
   where
     next : ((k : Kind) → Passing (suc i) (givenState i s w k) xs (stepsᶜ (numbered (suc i) xs) (givenState i s w k))) → (k : Kind) → HasKind x (s .scope .known) k → (a b : Bool) → opens table w ≡ a → knows w (s .scope .known) ≡ b
-        → Passing i s (let-line w x ∷ xs) (onwardᶜ (thenᶜ (giveIf (a || b) (record { line = i; name = w; value = k }) (s .scope)) (noted s (kindCode k))) i (λ t. stepsᶜ (numbered (suc i) xs) t))
+        → Passing i s (let-line w x ∷ xs) (onwardᶜ (thenᶜ (giveIf (a || b) (givenOn i w k) (s .scope)) (noted s (kindCode k))) i (λ t. stepsᶜ (numbered (suc i) xs) t))
     next rest k h true b p q = tt
     next rest k h false true p q = tt
     next rest k h false false p q = let-passing i s w x xs k (stepsᶜ (numbered (suc i) xs) (givenState i s w k)) h p q (rest k)
 
     go : ((k : Kind) → Passing (suc i) (givenState i s w k) xs (stepsᶜ (numbered (suc i) xs) (givenState i s w k))) → (o : Checked Kind) → ((k : Kind) → o ≡ fine k → HasKind x (s .scope .known) k)
-        → Passing i s (let-line w x ∷ xs) (onwardᶜ (thenᶜ o (λ k. thenᶜ (give (record { line = i; name = w; value = k }) (s .scope)) (noted s (kindCode k)))) i (λ t. stepsᶜ (numbered (suc i) xs) t))
+        → Passing i s (let-line w x ∷ xs) (onwardᶜ (thenᶜ o (λ k. thenᶜ (give (givenOn i w k) (s .scope)) (noted s (kindCode k)))) i (λ t. stepsᶜ (numbered (suc i) xs) t))
     go rest (bad c) h = tt
     go rest (fine k) h = next rest k (h k refl) (opens table w) (knows w (s .scope .known)) refl refl
 passing (show-line w ∷ xs) i s = go (λ k. passing xs (suc i) (shownState s k)) (lookup w (s .scope .known)) refl
@@ -72,8 +70,8 @@ unfolding stepsᶜ stepᶜ
 admitted-passes [] i s cs h = ap passes (sym (append-nil (s .codes)) ∙ ap (λ (ds : List ℕ). s .codes ++ ds) h)
 admitted-passes (let-line w x ∷ xs) i s cs h =
     let (k, ds, has, free, new, rest, e) = h in
-    ap (λ o. onwardᶜ (thenᶜ o (λ j. thenᶜ (give (record { line = i; name = w; value = j }) (s .scope)) (noted s (kindCode j)))) i (λ t. stepsᶜ (numbered (suc i) xs) t)) (kind-exact x (s .scope .known) k .1 has)
-    ∙ ap (λ b. onwardᶜ (thenᶜ (giveIf b (record { line = i; name = w; value = k }) (s .scope)) (noted s (kindCode k))) i (λ t. stepsᶜ (numbered (suc i) xs) t)) (ap₂ (λ a b. a || b) free new)
+    ap (λ o. onwardᶜ (thenᶜ o (λ j. thenᶜ (give (givenOn i w j) (s .scope)) (noted s (kindCode j)))) i (λ t. stepsᶜ (numbered (suc i) xs) t)) (kind-exact x (s .scope .known) k .1 has)
+    ∙ ap (λ b. onwardᶜ (thenᶜ (giveIf b (givenOn i w k) (s .scope)) (noted s (kindCode k))) i (λ t. stepsᶜ (numbered (suc i) xs) t)) (ap₂ (λ a b. a || b) free new)
     ∙ admitted-passes xs (suc i) (givenState i s w k) ds rest
     ∙ ap passes (append-assoc (s .codes) (kindCode k ∷ []) ds ∙ ap (λ (l : List ℕ). s .codes ++ l) e)
 admitted-passes (show-line w ∷ xs) i s cs h =

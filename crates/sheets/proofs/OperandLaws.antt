@@ -24,7 +24,7 @@ use Rattle.sheets.specs.code.Slots.{emptySlot}
 use Rattle.sheets.specs.code.Codes.{codeOf, letter}
 use Rattle.sheets.specs.Table.{when}
 use Rattle.sheets.specs.Names.{Known}
-use Rattle.sheets.specs.code.Reader.{Got, none, got, wordIf, readWord, spaced, orElse, nothing}
+use Rattle.sheets.specs.code.Reader.{none, got, wordIf, readWord, spaced, orElse, nothing}
 use Rattle.sheets.specs.code.Views.{coded}
 use Rattle.sheets.proofs.ReaderLaws.{byte-inside}
 use Rattle.sheets.proofs.Viewed.{coded-none, coded-got}

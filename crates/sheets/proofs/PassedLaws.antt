@@ -17,7 +17,7 @@ use Rattle.sheets.specs.code.Codes.{wordChar, codeFrom, codeOf}
 use Rattle.sheets.specs.Kinds.{Kind, number, kindCode}
 use Rattle.sheets.specs.Table.{when}
 use Rattle.sheets.specs.Lookup.{sameWord}
-use Rattle.sheets.specs.Names.{Known, orElse, lookup, readingWords}
+use Rattle.sheets.specs.Names.{Known, orElse, lookup, readingWords, givenOn}
 use Rattle.sheets.specs.code.KindCodes.{kindOr255}
 use Rattle.sheets.specs.Check.{readingKinds}
 use Rattle.sheets.proofs.ReadingLaws.{codesOf, AreWords, readingCodes, readings-are}
@@ -29,12 +29,12 @@ use Rattle.sheets.specs.code.Walking.{kindFrom, ReadingKind, Stands}
 
 -- ---- the readings
 
-by-codes : (vs : List Word) → AreWords vs → (w : Word) → IsWord w → when (hasKey (codesOf vs) (codeOf w)) 0 255 ≡ kindOr255 (lookup w (map (λ v. record { line = 0; name = v; value = number }) vs))
+by-codes : (vs : List Word) → AreWords vs → (w : Word) → IsWord w → when (hasKey (codesOf vs) (codeOf w)) 0 255 ≡ kindOr255 (lookup w (map (λ v. givenOn 0 v number) vs))
 by-codes [] h w hw = refl
 by-codes (v ∷ vs) h w hw = rw (words-agree v w (h .0) hw) (go (sameWord w v) (by-codes vs (h .1) w hw))
   where
-    go : (b : Bool) → when (hasKey (codesOf vs) (codeOf w)) 0 255 ≡ kindOr255 (lookup w (map (λ v. record { line = 0; name = v; value = number }) vs))
-        → when (b || hasKey (codesOf vs) (codeOf w)) 0 255 ≡ kindOr255 (orElse b number (lookup w (map (λ v. record { line = 0; name = v; value = number }) vs)))
+    go : (b : Bool) → when (hasKey (codesOf vs) (codeOf w)) 0 255 ≡ kindOr255 (lookup w (map (λ v. givenOn 0 v number) vs))
+        → when (b || hasKey (codesOf vs) (codeOf w)) 0 255 ≡ kindOr255 (orElse b number (lookup w (map (λ v. givenOn 0 v number) vs)))
     go true e = refl
     go false e = e
 
@@ -141,7 +141,7 @@ module _ (words codes newest : List ℕ) (passed : ℕ) (ps : Known Kind) (st : 
   from-more = newest-more words passed newest (st .from) (omega arith) (codeOf w)
 
   -- a let gives the word
-  pub stands-given : (i : ℕ) → Stands (set words (passed + 1) (codeOf w)) (set codes (passed + 1) (kindCode k)) (set newest (codeOf w % 512) (passed + 1)) (passed + 1) (record { line = i; name = w; value = k } ∷ ps)
+  pub stands-given : (i : ℕ) → Stands (set words (passed + 1) (codeOf w)) (set codes (passed + 1) (kindCode k)) (set newest (codeOf w % 512) (passed + 1)) (passed + 1) (givenOn i w k ∷ ps)
   stands-given i = record { few = omega arith; from = from-more; is = λ v hv. one-more v hv ∙ go (sameWord v w) (lookup v ps) }
     where
       go : (b : Bool) (o : Option Kind) → when b (kindCode k) (kindOr255 o) ≡ kindOr255 (orElse b k o)

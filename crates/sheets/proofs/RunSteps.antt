@@ -3,7 +3,6 @@ use Prim.Native.Nat.{ℕ, zero, suc, _+_, _-_, _*_, _<_, _≤_}
 use native.Mathlib.Omega.{arith}
 use mathlib.Core.Path.{_≡_, refl, sym, ap, subst, _∙_}
 use mathlib.Core.Bool.{Bool, true, false}
-use mathlib.Core.Option.{Option, none, some}
 use mathlib.Core.List.{List, [], _∷_, _++_}
 use lib.Dec.{leb}
 use lib.ListN.{length, set, take, drop, length-append, length-replicate}
@@ -15,24 +14,24 @@ use Rattle.sheets.specs.declared.value.Value.{Value}
 use Rattle.sheets.specs.declared.value.Slot.{Slot}
 use Rattle.sheets.specs.code.Slots.{emptySlot, noNames}
 use Rattle.sheets.specs.Text.{Word}
-use Rattle.sheets.specs.Trees.{Expr, Line, let-line, show-line}
+use Rattle.sheets.specs.Trees.{Expr, Line, let-line, show-line, numbered}
 use Rattle.sheets.specs.Grammar.{IsWord, after as afterPhase}
 use Rattle.sheets.specs.code.Codes.{codeOf}
-use Rattle.sheets.specs.Names.{Known, lookup, barred}
+use Rattle.sheets.specs.Names.{lookup, barred, givenOn}
 use Rattle.sheets.specs.Scopes.{giveIf, give}
 use Rattle.sheets.specs.Refusals.{Stop, stop, refusalNumber}
-use Rattle.sheets.specs.Output.{outputLine, entryLines}
+use Rattle.sheets.specs.Output.{outputLine}
+use Rattle.sheets.specs.Entries.{entryLines}
 use Rattle.sheets.specs.code.Writing.{Written, lineIf, room}
 use Rattle.sheets.specs.code.Reader.{got, readWord, readLine, formed, readLines}
-use Rattle.sheets.specs.Machine.{Out, goes, stops, sticks, after, then as thenᵒ, meet, eval, State, orSticks, rescoped, write, step, Ran, done, stopped, stuck, afterwards, onward, steps, numbered}
+use Rattle.sheets.specs.Machine.{Out, goes, stops, sticks, after, then as thenᵒ, meet, eval, State, rescoped, write, step, Ran, done, stopped, stuck, afterwards, steps}
 use Rattle.sheets.specs.declared.answers.RunAnswer.{RunAnswer}
 use Rattle.sheets.specs.Answers.{laid, ranAnswer, ranText}
 use Rattle.sheets.specs.Claim.{Unstuck}
-use Rattle.sheets.proofs.Slices.{part, line-part, line-alone, word-is}
+use Rattle.sheets.proofs.Slices.{part, line-alone, word-is}
 use Rattle.sheets.proofs.Walks.{Step, walk-end, walk-line}
 use Rattle.sheets.proofs.TextBound.{line-length, word-length, entries-last}
 use Rattle.sheets.proofs.LineText.{line-laid}
-use Rattle.sheets.specs.code.Operands.{Ready}
 use Rattle.sheets.specs.code.Running.{wordFound, Tabled, NextLine, letEffect, showEffect, EffectOf, EffectWith, Runs}
 use Rattle.sheets.specs.declared.effects.Effect.{Effect}
 use Rattle.sheets.proofs.LinePlaces.{let-places, space-late}
@@ -62,9 +61,9 @@ module _ (l : List ℕ) (i : ℕ) (st : State) where
   stops-step k (let-line w x) h = go (eval x (st .ellipsoid) (st .scope .known)) refl h
     where
       go : (o : Out Value) → eval x (st .ellipsoid) (st .scope .known) ≡ o → Effect.Stops k ≡ letEffect (codeOf w) o
-          → (fs : List LocalFrame) × (c : Stop) × (thenᵒ (eval x (st .ellipsoid) (st .scope .known)) (λ y. thenᵒ (orSticks (give (record { line = i; name = w; value = y }) (st .scope))) (rescoped st)) ≡ stops fs c) × (k ≡ refusalNumber (stop c))
+          → (fs : List LocalFrame) × (c : Stop) × (thenᵒ (eval x (st .ellipsoid) (st .scope .known)) (λ y. rescoped st (give (givenOn i w y) (st .scope))) ≡ stops fs c) × (k ≡ refusalNumber (stop c))
       go (goes fs v) e h = let z : _≡_ {A = ℕ} 0 1 = cc in absurd (omega arith)
-      go (stops fs c) e h = (fs, c, ap (λ o. thenᵒ o (λ y. thenᵒ (orSticks (give (record { line = i; name = w; value = y }) (st .scope))) (rescoped st))) e, cc)
+      go (stops fs c) e h = (fs, c, ap (λ o. thenᵒ o (λ y. rescoped st (give (givenOn i w y) (st .scope)))) e, cc)
       go (sticks fs) e h = let z : _≡_ {A = ℕ} 0 1 = cc in absurd (omega arith)
   stops-step k (show-line w) (m, ew, h) = go (meet (lookup w (st .scope .known))) refl h
     where
@@ -79,10 +78,10 @@ module _ (l : List ℕ) (i : ℕ) (st : State) where
   sticks-step (let-line w x) h = go (eval x (st .ellipsoid) (st .scope .known)) refl h
     where
       go : (o : Out Value) → eval x (st .ellipsoid) (st .scope .known) ≡ o → Effect.Sticks ≡ letEffect (codeOf w) o
-          → (fs : List LocalFrame) × (thenᵒ (eval x (st .ellipsoid) (st .scope .known)) (λ y. thenᵒ (orSticks (give (record { line = i; name = w; value = y }) (st .scope))) (rescoped st)) ≡ sticks fs)
+          → (fs : List LocalFrame) × (thenᵒ (eval x (st .ellipsoid) (st .scope .known)) (λ y. rescoped st (give (givenOn i w y) (st .scope))) ≡ sticks fs)
       go (goes fs v) e h = let z : _≡_ {A = ℕ} 0 1 = cc in absurd (omega arith)
       go (stops fs c) e h = let z : _≡_ {A = ℕ} 0 1 = cc in absurd (omega arith)
-      go (sticks fs) e h = (fs, ap (λ o. thenᵒ o (λ y. thenᵒ (orSticks (give (record { line = i; name = w; value = y }) (st .scope))) (rescoped st))) e)
+      go (sticks fs) e h = (fs, ap (λ o. thenᵒ o (λ y. rescoped st (give (givenOn i w y) (st .scope)))) e)
   sticks-step (show-line w) (m, ew, h) = go (meet (lookup w (st .scope .known))) refl h
     where
       go : (o : Out Value) → meet (lookup w (st .scope .known)) ≡ o → Effect.Sticks ≡ showEffect m o
@@ -92,24 +91,24 @@ module _ (l : List ℕ) (i : ℕ) (st : State) where
       go (sticks fs) e h = (fs, ap (λ o. thenᵒ o (λ y. goes [] (write i st w y))) e)
 
   gives-step : (k : ℕ) (v : Value) (x : Line) → EffectOf l x (st .ellipsoid) (st .scope .known) (Effect.Gives k v)
-      → (w : Word) × (y : Expr) × (fs : List LocalFrame) × (x ≡ let-line w y) × (k ≡ codeOf w) × (step i st x ≡ after fs (thenᵒ (orSticks (give (record { line = i; name = w; value = v }) (st .scope))) (rescoped st)))
+      → (w : Word) × (y : Expr) × (fs : List LocalFrame) × (x ≡ let-line w y) × (k ≡ codeOf w) × (step i st x ≡ after fs (rescoped st (give (givenOn i w v) (st .scope))))
   unfolding EffectOf letEffect showEffect step
   gives-step k v (let-line w x) h = go (eval x (st .ellipsoid) (st .scope .known)) refl h
     where
       go : (o : Out Value) → eval x (st .ellipsoid) (st .scope .known) ≡ o → Effect.Gives k v ≡ letEffect (codeOf w) o
           → (u : Word) × (y : Expr) × (fs : List LocalFrame) × (let-line w x ≡ let-line u y) × (k ≡ codeOf u)
-          × (thenᵒ (eval x (st .ellipsoid) (st .scope .known)) (λ y. thenᵒ (orSticks (give (record { line = i; name = w; value = y }) (st .scope))) (rescoped st)) ≡ after fs (thenᵒ (orSticks (give (record { line = i; name = u; value = v }) (st .scope))) (rescoped st)))
+          × (thenᵒ (eval x (st .ellipsoid) (st .scope .known)) (λ y. rescoped st (give (givenOn i w y) (st .scope))) ≡ after fs (rescoped st (give (givenOn i u v) (st .scope))))
       go (goes fs u) e h =
           let iv : u ≡ v = cc in
           let ik : k ≡ codeOf w = cc in
-          (w, x, fs, refl, ik, ap (λ o. thenᵒ o (λ y. thenᵒ (orSticks (give (record { line = i; name = w; value = y }) (st .scope))) (rescoped st))) e ∙ ap (λ y. after fs (thenᵒ (orSticks (give (record { line = i; name = w; value = y }) (st .scope))) (rescoped st))) iv)
+          (w, x, fs, refl, ik, ap (λ o. thenᵒ o (λ y. rescoped st (give (givenOn i w y) (st .scope)))) e ∙ ap (λ y. after fs (rescoped st (give (givenOn i w y) (st .scope)))) iv)
       go (stops fs c) e h = let z : _≡_ {A = ℕ} 0 1 = cc in absurd (omega arith)
       go (sticks fs) e h = let z : _≡_ {A = ℕ} 0 1 = cc in absurd (omega arith)
   gives-step k v (show-line w) (m, ew, h) = go (meet (lookup w (st .scope .known))) h
     where
       go : (o : Out Value) → Effect.Gives k v ≡ showEffect m o
           → (u : Word) × (y : Expr) × (fs : List LocalFrame) × (show-line w ≡ let-line u y) × (k ≡ codeOf u)
-          × (thenᵒ (meet (lookup w (st .scope .known))) (λ y. goes [] (write i st w y)) ≡ after fs (thenᵒ (orSticks (give (record { line = i; name = u; value = v }) (st .scope))) (rescoped st)))
+          × (thenᵒ (meet (lookup w (st .scope .known))) (λ y. goes [] (write i st w y)) ≡ after fs (rescoped st (give (givenOn i u v) (st .scope))))
       go (goes fs u) h = let z : _≡_ {A = ℕ} 0 1 = cc in absurd (omega arith)
       go (stops fs c) h = let z : _≡_ {A = ℕ} 0 1 = cc in absurd (omega arith)
       go (sticks fs) h = let z : _≡_ {A = ℕ} 0 1 = cc in absurd (omega arith)
@@ -120,7 +119,7 @@ module _ (l : List ℕ) (i : ℕ) (st : State) where
   shows-step m v (let-line w x) h = go (eval x (st .ellipsoid) (st .scope .known)) h
     where
       go : (o : Out Value) → Effect.Shows m v ≡ letEffect (codeOf w) o
-          → (u : Word) × (fs : List LocalFrame) × (readWord l 6 ≡ got u m) × (thenᵒ (eval x (st .ellipsoid) (st .scope .known)) (λ y. thenᵒ (orSticks (give (record { line = i; name = w; value = y }) (st .scope))) (rescoped st)) ≡ goes fs (write i st u v))
+          → (u : Word) × (fs : List LocalFrame) × (readWord l 6 ≡ got u m) × (thenᵒ (eval x (st .ellipsoid) (st .scope .known)) (λ y. rescoped st (give (givenOn i w y) (st .scope))) ≡ goes fs (write i st u v))
       go (goes fs u) h = let z : _≡_ {A = ℕ} 0 1 = cc in absurd (omega arith)
       go (stops fs c) h = let z : _≡_ {A = ℕ} 0 1 = cc in absurd (omega arith)
       go (sticks fs) h = let z : _≡_ {A = ℕ} 0 1 = cc in absurd (omega arith)
@@ -214,12 +213,12 @@ module _ (s : List ℕ) (e : Ellipsoid) (rs : List Float) (d : List ℕ) (at num
       where
         given : length d ≡ 24576 → (ls : List Line) (left p : ℕ) (el : readLines left number p s at ≡ formed ls) → number + left ≡ 97 → (st : State) → st .ellipsoid ≡ e → Tabled (st .scope .known) t n rs → written ≡ length (entryLines (st .entries))
             → written ≤ 223 * (number - 2) → out ≡ laid (entryLines (st .entries)) d → Unstuck (steps (numbered number ls) st) → (sp : Step s left number p at ls el) → sp .next ≡ to → (w : Word) (hs : List LocalFrame) → IsWord w → k ≡ codeOf w
-            → (b : Bool) → step number st (sp .line) ≡ after hs (thenᵒ (orSticks (giveIf b (record { line = number; name = w; value = v }) (st .scope))) (rescoped st)) → Answers q out′ d (steps (numbered number ls) st)
+            → (b : Bool) → step number st (sp .line) ≡ after hs (rescoped st (giveIf b (givenOn number w v) (st .scope))) → Answers q out′ d (steps (numbered number ls) st)
         given ed ls left p el cl st ee tb ew bound eo un sp en w hs iw ek true es = absurd (stuck-here (hs ++ []) st ls (sp .line) (sp .rest) (sp .all) es un)
         given ed ls left p el cl st ee tb ew bound eo un sp en w hs iw ek false es =
             onwards q out′ ls (hs ++ []) st _ (sp .line) (sp .rest) (sp .all) es un (λ un′.
             hr .is ed (sp .rest) (sp .fewer) _ (subst (λ z. readLines (sp .fewer) (number + 1) (afterPhase p (sp .line)) s z ≡ formed (sp .rest)) en (sp .goes-on)) (omega (arith, sp .one-less, cl)) _ ee
-            (subst (λ z. Tabled (record { line = number; name = w; value = v } ∷ st .scope .known) (set t z y) z rs) (omega arith) (tabled-let (st .scope .known) t n rs tb (omega arith) w iw v y (ap (λ (z : Slot). z .word) ey ∙ ek) (ap (λ (z : Slot). z .value) ey) number)) ew (omega arith) eo un′)
+            (subst (λ z. Tabled (givenOn number w v ∷ st .scope .known) (set t z y) z rs) (omega arith) (tabled-let (st .scope .known) t n rs tb (omega arith) w iw v y (ap (λ (z : Slot). z .word) ey ∙ ek) (ap (λ (z : Slot). z .value) ey) number)) ew (omega arith) eo un′)
 
     pub runs-shows : (m : ℕ) (v : Value) → x ≡ Effect.Shows m v → (out₂ : List ℕ) (written₂ : ℕ) → Written out written (lineIf (room (part s at to) 6 m out written) (part s at to) 6 m v) out₂ written₂ → (q : RunAnswer) (out′ : List ℕ)
         → Runs s e rs d to (number + 1) t n written₂ out₂ q out′ → Runs s e rs d at number t n written out q out′

@@ -9,12 +9,12 @@ use lib.ListN.{length, getD, length-append, List·getD-append}
 use lib.Ieee.{Float}
 use Rattle.frames.specs.declared.frame.LocalFrame.{LocalFrame}
 use Rattle.sheets.specs.Text.{Word}
-use Rattle.sheets.specs.Trees.{Line, let-line, show-line, Sheet}
+use Rattle.sheets.specs.Trees.{Line, let-line, show-line, Sheet, numbered}
 use Rattle.sheets.specs.Kinds.{Kind, kindCode}
-use Rattle.sheets.specs.Names.{Given, lookup, barred}
-use Rattle.sheets.specs.Scopes.{Scope, giveIf, give}
+use Rattle.sheets.specs.Names.{Given, lookup, barred, givenOn}
+use Rattle.sheets.specs.Scopes.{Scope, giveIf}
 use Rattle.sheets.specs.Refusals.{Fault, name, Checked, fine, bad, thenᶜ, known?}
-use Rattle.sheets.specs.Machine.{Out, goes, stops, sticks, State, step, Ran, done, stopped, stuck, afterwards, onward, numbered, steps, start, machine}
+use Rattle.sheets.specs.Machine.{Out, goes, stops, sticks, State, step, Ran, done, stopped, stuck, afterwards, onward, steps, start, machine}
 use Rattle.sheets.specs.Check.{kindOfExpr, Stateᶜ, noted, stepᶜ, Walked, passes, refuses, onwardᶜ, stepsᶜ, startᶜ, walk}
 use Rattle.sheets.specs.Claim.{All}
 use Rattle.sheets.proofs.Agree.{Agree, View, agree-step, start-seen}
@@ -66,7 +66,7 @@ next-noted i s n c h e = (
   (n, refl),
 )
 
-next-give : (b : Bool) (i : ℕ) (s : Stateᶜ) (w : Word) (k : Kind) → Tidy i s → Next i s (thenᶜ (giveIf b (record { line = i; name = w; value = k }) (s .scope)) (noted s (kindCode k)))
+next-give : (b : Bool) (i : ℕ) (s : Stateᶜ) (w : Word) (k : Kind) → Tidy i s → Next i s (thenᶜ (giveIf b (givenOn i w k) (s .scope)) (noted s (kindCode k)))
 next-give true i s w k h = tt
 next-give false i s w k h =
     let m = next-noted i s (kindCode k) (s .scope) h refl .0 in

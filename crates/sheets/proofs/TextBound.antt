@@ -1,7 +1,6 @@
 -- The text of a sheet within the grammar fits 24,576 bytes: 95 lines of at most 223. Assumes nothing.
 use mathlib.Core.Path.{_≡_, refl, sym, ap, _∙_}
 use mathlib.Core.List.{List, [], _∷_, _++_, append-assoc, append-nil}
-use mathlib.Core.Bool.{Bool, true, false}
 use Prim.Native.Nat.{ℕ, zero, suc, _≤_, _+_, _*_, _/_, _%_}
 use native.Mathlib.Omega.{arith}
 use lib.ListN.{length, length-append}
@@ -11,14 +10,15 @@ use Rattle.frames.specs.declared.orientation.Orientation.the-variants.{Enu, Ned
 use Rattle.sheets.specs.declared.value.Value.{Value}
 use Rattle.sheets.specs.declared.value.Value.the-variants.{Number, Radians, Metres, Geocentric, Geodetic, Vector, Frame}
 use Rattle.sheets.specs.Text.{Word}
-use Rattle.sheets.specs.Trees.{Line, let-line, show-line, Sheet}
-use Rattle.sheets.specs.Grammar.{IsWord, IsLine, LineParts, AreLines, IsSheet, after as afterPhase}
+use Rattle.sheets.specs.Trees.{Line, let-line, show-line, Sheet, numbered}
+use Rattle.sheets.specs.Grammar.{IsWord, LineParts, AreLines, IsSheet, after as afterPhase}
 use Rattle.sheets.specs.Kinds.{Kind, number, angle, len, geocentric, geodetic, vector, frame, kindOf, kindName}
-use Rattle.sheets.specs.Names.{lookup}
+use Rattle.sheets.specs.Names.{lookup, givenOn}
 use Rattle.sheets.specs.Scopes.{Scope, give}
 use Rattle.sheets.specs.Refusals.{Checked}
-use Rattle.sheets.specs.Output.{hex, hexDigit, field, fields, fieldsText, outputLine, Entry, shown, entryLine, entryLines}
-use Rattle.sheets.specs.Machine.{Out, goes, stops, sticks, after, then, meet, eval, State, orSticks, rescoped, write, step, Ran, done, stopped, stuck, afterwards, onward, steps, start, machine, numbered}
+use Rattle.sheets.specs.Output.{hex, hexDigit, field, fields, fieldsText, outputLine}
+use Rattle.sheets.specs.Entries.{Entry, shown, entryLine, entryLines}
+use Rattle.sheets.specs.Machine.{Out, goes, stops, sticks, after, then, meet, eval, State, orSticks, rescoped, step, Ran, done, stopped, stuck, afterwards, onward, steps, start, machine}
 use Rattle.sheets.specs.Answers.{ranText}
 
 -- ---- an output line
@@ -96,12 +96,12 @@ entries-last i (e ∷ es) w x = ap (λ (t : List ℕ). entryLine e ++ t) (entrie
 abbrev Longer : State → State → Type 0
 Longer s t = length (entryLines (t .entries)) ≤ length (entryLines (s .entries)) + 223
 
-longer-scope : (s : State) (c : Checked (Scope Value)) → Left (Longer s) (then (orSticks c) (rescoped s))
+longer-scope : (s : State) (c : Checked (Scope Value)) → Left (Longer s) (rescoped s c)
 longer-scope s c = left-then (Longer s) (orSticks c) _ (λ x. omega arith)
 
 longer-step : (i : ℕ) (s : State) (x : Line) → LineParts x → Left (Longer s) (step i s x)
 unfolding step
-longer-step i s (let-line w x) t = left-then (Longer s) (eval x (s .ellipsoid) (s .scope .known)) _ (λ y. longer-scope s (give (record { line = i; name = w; value = y }) (s .scope)))
+longer-step i s (let-line w x) t = left-then (Longer s) (eval x (s .ellipsoid) (s .scope .known)) _ (λ y. longer-scope s (give (givenOn i w y) (s .scope)))
 longer-step i s (show-line w) t =
     left-then (Longer s) (meet (lookup w (s .scope .known))) _ (λ y.
     let h = line-length w y (word-length w t) in

@@ -10,14 +10,14 @@ use Rattle.frames.specs.declared.frame.LocalFrame.{LocalFrame}
 use Rattle.sheets.specs.declared.value.Value.{Value}
 use Rattle.sheets.specs.declared.value.Value.the-variants.{Number, Radians, Metres, Geocentric, Geodetic, Vector, Frame}
 use Rattle.sheets.specs.Text.{Word}
-use Rattle.sheets.specs.Trees.{Num, Expr, Exprs, word-expr, num-expr, form-expr, nil, _▸_, Line, let-line, show-line, Sheet}
+use Rattle.sheets.specs.Trees.{Num, Expr, Exprs, word-expr, num-expr, form-expr, nil, _▸_, Line, let-line, show-line, Sheet, numbered}
 use Rattle.sheets.specs.Letters.{Letter, 𝐧, 𝐚, 𝐥, 𝐠, 𝐝, 𝐯, 𝐟, ⟦_⟧, Holds, held, hold, both, orientations}
 use Rattle.sheets.specs.Table.{Row, on, when, table}
 use Rattle.sheets.specs.Lookup.{sameWord, shared, Hit, hit, find}
-use Rattle.sheets.specs.Names.{Given, Known, orElse, lookup, barred, readingWords}
-use Rattle.sheets.specs.Scopes.{giveIf, give}
+use Rattle.sheets.specs.Names.{Given, Known, orElse, lookup, barred, readingWords, givenOn}
+use Rattle.sheets.specs.Scopes.{giveIf}
 use Rattle.sheets.specs.Limits.{numValue, inLimit}
-use Rattle.sheets.specs.Machine.{Out, goes, stops, sticks, after, then, test, met, meet, made, result, provided, applyRow, eval, evals, State, orSticks, rescoped, step, Ran, done, stopped, stuck, afterwards, onward, steps, readings, start, machine, numbered}
+use Rattle.sheets.specs.Machine.{Out, goes, stops, sticks, after, then, test, meet, made, result, provided, applyRow, eval, evals, State, rescoped, step, Ran, done, stopped, stuck, afterwards, onward, steps, readings, start, machine}
 use Rattle.sheets.specs.Claim.{All, framesMade}
 
 each-append : {A : Type 0} (P : A → Type 0) (xs ys : List A) → All P xs → All P ys → All P (xs ++ ys)
@@ -203,14 +203,14 @@ module _ (Good : Value → Type 0) (Fine : LocalFrame → Type 0) (nums : (q : N
   abbrev GoodState : State → Type 0
   GoodState s = GoodKnown (s .scope .known)
 
-  good-give : (b : Bool) (g : Given Value) (s : State) → GoodState s → Good (g .value) → GoodOut GoodState (then (orSticks (giveIf b g (s .scope))) (rescoped s))
+  good-give : (b : Bool) (g : Given Value) (s : State) → GoodState s → Good (g .value) → GoodOut GoodState (rescoped s (giveIf b g (s .scope)))
   good-give true g s h j = tt
   good-give false g s h j = ((j, h), tt)
 
   good-step : (i : ℕ) (s : State) (x : Line) → GoodState s → GoodOut GoodState (step i s x)
   unfolding step
   good-step i s (let-line w x) h =
-      good-then Good GoodState (eval x (s .ellipsoid) (s .scope .known)) _ (good-eval x (s .ellipsoid) (s .scope .known) h) (λ y j. good-give (barred w (s .scope .known)) (record { line = i; name = w; value = y }) s h j)
+      good-then Good GoodState (eval x (s .ellipsoid) (s .scope .known)) _ (good-eval x (s .ellipsoid) (s .scope .known) h) (λ y j. good-give (barred w (s .scope .known)) (givenOn i w y) s h j)
   good-step i s (show-line w) h = good-then Good GoodState (meet (lookup w (s .scope .known))) _ (good-meet (lookup w (s .scope .known)) (good-lookup w (s .scope .known) h)) (λ y j. (h, tt))
 
   good-afterwards : (fs : List LocalFrame) (r : Ran) → All Fine fs → All Fine (framesMade r) → All Fine (framesMade (afterwards fs r))

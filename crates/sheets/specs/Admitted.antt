@@ -5,12 +5,11 @@ use mathlib.Core.List.{List, [], _∷_}
 use mathlib.Core.Option.{some}
 use mathlib.Core.Bool.{false}
 use Prim.Native.Nat.{ℕ, suc}
-use Rattle.sheets.specs.Text.{Word}
-use Rattle.sheets.specs.Trees.{Num, Expr, Exprs, word-expr, num-expr, form-expr, nil, _▸_, Line, let-line, show-line}
+use Rattle.sheets.specs.Trees.{Expr, Exprs, word-expr, num-expr, form-expr, nil, _▸_, Line, let-line, show-line}
 use Rattle.sheets.specs.Kinds.{Kind, number, kindCode}
 use Rattle.sheets.specs.Table.{table}
 use Rattle.sheets.specs.Lookup.{KindRow, kindRows, opens}
-use Rattle.sheets.specs.Names.{Known, lookup, knows}
+use Rattle.sheets.specs.Names.{Known, lookup, knows, givenOn}
 
 abbrev pub In : KindRow → List KindRow → Type 0
 In r [] = ⊥
@@ -31,5 +30,5 @@ abbrev mutual
 abbrev pub LinesFit : ℕ → Known Kind → List Line → List ℕ → Type 0
 LinesFit i ks [] cs = [] ≡ cs
 LinesFit i ks (let-line w x ∷ ls) cs =
-    (k : Kind) × (ds : List ℕ) × HasKind x ks k × (opens table w ≡ false) × (knows w ks ≡ false) × LinesFit (suc i) (record { line = i; name = w; value = k } ∷ ks) ls ds × (kindCode k ∷ ds ≡ cs)
+    (k : Kind) × (ds : List ℕ) × HasKind x ks k × (opens table w ≡ false) × (knows w ks ≡ false) × LinesFit (suc i) (givenOn i w k ∷ ks) ls ds × (kindCode k ∷ ds ≡ cs)
 LinesFit i ks (show-line w ∷ ls) cs = (k : Kind) × (ds : List ℕ) × (lookup w ks ≡ some k) × LinesFit (suc i) ks ls ds × (kindCode k ∷ ds ≡ cs)

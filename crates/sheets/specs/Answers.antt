@@ -12,8 +12,8 @@ use Rattle.sheets.specs.Limits.{numValue, between}
 use Rattle.sheets.specs.Refusals.{Refusal, size, lent, form, ellipsoid, fault, stop, refusalNumber}
 pub use Rattle.sheets.specs.declared.answers.CheckAnswer.{CheckAnswer}
 pub use Rattle.sheets.specs.declared.answers.RunAnswer.{RunAnswer}
-use Rattle.sheets.specs.Machine.{State, Ran, done, stopped, stuck, machine}
-use Rattle.sheets.specs.Output.{entryLines}
+use Rattle.sheets.specs.Machine.{Ran, done, stopped, stuck, machine}
+use Rattle.sheets.specs.Entries.{entryLines}
 use Rattle.sheets.specs.Check.{Walked, passes, refuses, walk}
 
 -- ---- refusals 1 to 6

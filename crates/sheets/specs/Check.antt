@@ -1,14 +1,12 @@
 -- The check's walk of refusals 5 and 6: names and kinds from the sheet alone, in the machine's order.
 use mathlib.Core.List.{List, [], _∷_, _++_, map}
-use Prim.Native.Nat.{ℕ, suc}
-use Rattle.sheets.specs.Text.{Word}
-use Rattle.sheets.specs.Trees.{Num, Expr, Exprs, word-expr, num-expr, form-expr, nil, _▸_, Line, let-line, show-line, Sheet}
+use Prim.Native.Nat.{ℕ}
+use Rattle.sheets.specs.Trees.{Expr, Exprs, word-expr, num-expr, form-expr, nil, _▸_, Line, let-line, show-line, Sheet, Numbered, numbered}
 use Rattle.sheets.specs.Kinds.{Kind, number, kindCode}
 use Rattle.sheets.specs.Table.{table}
 use Rattle.sheets.specs.Lookup.{findKind}
-use Rattle.sheets.specs.Names.{Given, Known, lookup, readingWords}
+use Rattle.sheets.specs.Names.{Known, givenOn, lookup, readingWords}
 use Rattle.sheets.specs.Scopes.{Scope, opened, give}
-use Rattle.sheets.specs.Machine.{Numbered, numbered}
 use Rattle.sheets.specs.Refusals.{Fault, name, kind, Checked, fine, bad, thenᶜ, known?}
 
 -- a NUM is n, a known word has its kind, a bracket that of the row which fits its word and its arguments' kinds
@@ -31,7 +29,7 @@ abbrev pub noted : Stateᶜ → ℕ → Scope Kind → Checked Stateᶜ
 noted s n c = fine (record { scope = c; codes = s .codes ++ (n ∷ []) })
 
 unfoldable pub stepᶜ : ℕ → Stateᶜ → Line → Checked Stateᶜ
-stepᶜ i s (let-line w x) = thenᶜ (kindOfExpr x (s .scope .known)) (λ k. thenᶜ (give (record { line = i; name = w; value = k }) (s .scope)) (noted s (kindCode k)))
+stepᶜ i s (let-line w x) = thenᶜ (kindOfExpr x (s .scope .known)) (λ k. thenᶜ (give (givenOn i w k) (s .scope)) (noted s (kindCode k)))
 stepᶜ i s (show-line w) = thenᶜ (known? name (lookup w (s .scope .known))) (λ k. noted s (kindCode k) (s .scope))
 
 -- the codes of the lines from line 2, or the fault and its line
@@ -49,7 +47,7 @@ stepsᶜ (l ∷ ls) s = onwardᶜ (stepᶜ (l .0) s (l .1)) (l .0) (λ t. steps�
 
 -- a reading is n
 abbrev pub readingKinds : Known Kind
-readingKinds = map (λ w. record { line = 0; name = w; value = number }) readingWords
+readingKinds = map (λ w. givenOn 0 w number) readingWords
 
 abbrev pub startᶜ : Stateᶜ
 startᶜ = record { scope = opened readingKinds; codes = [] }

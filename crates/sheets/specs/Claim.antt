@@ -1,6 +1,6 @@
 -- Demand 3: one claim about a whole sheet and its readings.
 use mathlib.Core.Path.{_≡_}
-use mathlib.Core.Logic.{_⊎_, _↔_}
+use mathlib.Core.Logic.{_↔_}
 use mathlib.Core.List.{List, [], _∷_}
 use mathlib.Core.Bool.{true}
 use Prim.Native.Nat.{ℕ, _-_, _≤_}
@@ -20,7 +20,7 @@ use Rattle.sheets.specs.Grammar.{Written}
 use Rattle.sheets.specs.Names.{Given}
 use Rattle.sheets.specs.Kinds.{kindOf, kindCode}
 use Rattle.sheets.specs.Refusals.{Fault, refusalNumber, fault}
-use Rattle.sheets.specs.Machine.{State, Ran, done, stopped, stuck, machine}
+use Rattle.sheets.specs.Machine.{Ran, done, stopped, stuck, machine}
 use Rattle.sheets.specs.Check.{readingKinds}
 use Rattle.sheets.specs.Admitted.{LinesFit}
 use Rattle.sheets.specs.Answers.{sized, ranged, laid, CheckAnswer, RunAnswer, ranAnswer, ranText}

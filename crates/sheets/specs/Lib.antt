@@ -10,6 +10,7 @@ pub mod Names
 pub mod Scopes
 pub mod Limits
 pub mod Output
+pub mod Entries
 pub mod Machine
 pub mod Check
 pub mod Admitted

@@ -2,7 +2,7 @@
 use mathlib.Core.List.{List, [], _∷_, _++_}
 use mathlib.Core.Option.{Option, none, some}
 use mathlib.Core.Bool.{Bool, true, false}
-use Prim.Native.Nat.{ℕ, suc}
+use Prim.Native.Nat.{ℕ}
 use lib.Ieee.{Float}
 use Rattle.numbers.specs.Ops.{num}
 use Rattle.numbers.specs.Lengths.{metres}
@@ -12,13 +12,13 @@ use Rattle.frames.specs.declared.frame.LocalFrame.{LocalFrame}
 use Rattle.sheets.specs.declared.value.Value.{Value}
 use Rattle.sheets.specs.declared.value.Value.the-variants.{Number, Radians, Metres, Geocentric, Geodetic, Vector, Frame}
 use Rattle.sheets.specs.Text.{Word}
-use Rattle.sheets.specs.Trees.{Num, Expr, Exprs, word-expr, num-expr, form-expr, nil, _▸_, Line, let-line, show-line, Head, wgs84, custom, Sheet}
-use Rattle.sheets.specs.Table.{Row, on, table}
+use Rattle.sheets.specs.Trees.{Expr, Exprs, word-expr, num-expr, form-expr, nil, _▸_, Line, let-line, show-line, Head, wgs84, custom, Sheet, Numbered, numbered}
+use Rattle.sheets.specs.Table.{on, table}
 use Rattle.sheets.specs.Lookup.{Hit, find}
-use Rattle.sheets.specs.Names.{Given, Known, lookup, readingWords}
+use Rattle.sheets.specs.Names.{Known, givenOn, lookup, readingWords}
 use Rattle.sheets.specs.Scopes.{Scope, opened, give}
 use Rattle.sheets.specs.Limits.{numValue, inLimit}
-use Rattle.sheets.specs.Output.{Entry, shown}
+use Rattle.sheets.specs.Entries.{Entry, shown}
 use Rattle.sheets.specs.Refusals.{Stop, limit, centre, Checked, fine, bad}
 
 -- what a step comes to, with the frames that it made: it goes on with a result, refusal 7 or 8 stops it, or it sticks
@@ -98,15 +98,16 @@ pub record State : Type 0 where
   pub scope : Scope Value
   pub entries : List Entry
 
-abbrev pub rescoped : State → Scope Value → Out State
-rescoped s c = goes [] (record { ellipsoid = s .ellipsoid; scope = c; entries = s .entries })
+-- it goes on in the scope that it comes to
+abbrev pub rescoped : State → Checked (Scope Value) → Out State
+rescoped s c = then (orSticks c) (λ d. goes [] (record { ellipsoid = s .ellipsoid; scope = d; entries = s .entries }))
 
 abbrev pub write : ℕ → State → Word → Value → State
 write i s w x = record { ellipsoid = s .ellipsoid; scope = s .scope; entries = s .entries ++ (shown i w x ∷ []) }
 
 -- line i: a let's expression is read before its name is given
 unfoldable pub step : ℕ → State → Line → Out State
-step i s (let-line w x) = then (eval x (s .ellipsoid) (s .scope .known)) (λ y. then (orSticks (give (record { line = i; name = w; value = y }) (s .scope))) (rescoped s))
+step i s (let-line w x) = then (eval x (s .ellipsoid) (s .scope .known)) (λ y. rescoped s (give (givenOn i w y) (s .scope)))
 step i s (show-line w) = then (meet (lookup w (s .scope .known))) (λ y. goes [] (write i s w y))
 
 -- ---- a sheet
@@ -127,14 +128,6 @@ onward (goes fs t) i s k = afterwards fs (k t)
 onward (stops fs r) i s k = stopped fs r i s
 onward (sticks fs) i s k = stuck fs i s
 
--- a line with its number, and lines counted from i on
-abbrev pub Numbered : Type 0
-Numbered = ℕ × Line
-
-abbrev pub numbered : ℕ → List Line → List Numbered
-numbered i [] = []
-numbered i (l ∷ ls) = (i, l) ∷ numbered (suc i) ls
-
 unfoldable pub steps : List Numbered → State → Ran
 steps [] s = done [] s
 steps (l ∷ ls) s = onward (step (l .0) s (l .1)) (l .0) s (λ t. steps ls t)
@@ -147,8 +140,8 @@ surface (custom q r) = surfaceOf (metres (numValue q)) (numValue r)
 -- r0 to r15 hold the readings (one that is lacking counts as 0: a run has all sixteen)
 abbrev pub readings : List Word → List Float → Known Value
 readings [] rs = []
-readings (w ∷ ws) [] = record { line = 0; name = w; value = Number (num 0) } ∷ readings ws []
-readings (w ∷ ws) (r ∷ rs) = record { line = 0; name = w; value = Number r } ∷ readings ws rs
+readings (w ∷ ws) [] = givenOn 0 w (Number (num 0)) ∷ readings ws []
+readings (w ∷ ws) (r ∷ rs) = givenOn 0 w (Number r) ∷ readings ws rs
 
 abbrev pub start : Head → List Float → State
 start h rs = record { ellipsoid = surface h; scope = opened (readings readingWords rs); entries = [] }

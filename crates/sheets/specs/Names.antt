@@ -7,11 +7,14 @@ use Rattle.sheets.specs.Text.{Word, ascii}
 use Rattle.sheets.specs.Table.{table}
 use Rattle.sheets.specs.Lookup.{sameWord, opens}
 
--- a word with what it stands for, and the line of the let that gave it (a reading: 0)
+-- a word with what it stands for, and the line of the let that gave it, 0 for a reading
 pub record Given (A : Type 0) : Type 0 where
   pub line : ℕ
   pub name : Word
   pub value : A
+
+abbrev pub givenOn : {A : Type 0} → ℕ → Word → A → Given A
+givenOn i w x = record { line = i; name = w; value = x }
 
 -- known words, the newest first
 abbrev pub Known : Type 0 → Type 0

@@ -1,7 +1,7 @@
 -- Sheets as trees: the words and numbers of a sheet, without its brackets, spaces and line ends.
 use mathlib.Core.List.{List, [], _∷_, _++_}
 use mathlib.Core.Bool.{Bool}
-use Prim.Native.Nat.{ℕ, _+_, _-_, _*_}
+use Prim.Native.Nat.{ℕ, suc, _+_, _-_, _*_}
 pub use Rattle.sheets.specs.Text.{Word}
 
 infixr 40 _▸_
@@ -44,3 +44,11 @@ pub data Line : Type 0 where
 pub record Sheet : Type 0 where
   pub head : Head
   pub lines : List Line
+
+-- a line with its number, and lines counted from line i on
+abbrev pub Numbered : Type 0
+Numbered = ℕ × Line
+
+abbrev pub numbered : ℕ → List Line → List Numbered
+numbered i [] = []
+numbered i (l ∷ ls) = (i, l) ∷ numbered (suc i) ls

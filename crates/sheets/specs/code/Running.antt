@@ -8,20 +8,20 @@ use lib.ListN.{length, getD}
 use lib.Ieee.{Float}
 use Rattle.numbers.specs.Ops.{num}
 use Rattle.frames.specs.declared.ellipsoid.Ellipsoid.{Ellipsoid}
-use Rattle.sheets.specs.Output.{entryLines}
+use Rattle.sheets.specs.Entries.{entryLines}
 use Rattle.sheets.specs.declared.value.Value.{Value}
 use Rattle.sheets.specs.declared.value.Value.the-variants.{Number}
 use Rattle.sheets.specs.declared.value.Slot.{Slot}
 use Rattle.sheets.specs.code.Slots.{emptySlot}
 use Rattle.sheets.specs.Text.{Word}
-use Rattle.sheets.specs.Trees.{Expr, Line, let-line, show-line}
+use Rattle.sheets.specs.Trees.{Expr, Line, let-line, show-line, numbered}
 use Rattle.sheets.specs.Grammar.{IsWord}
 use Rattle.sheets.specs.code.Codes.{codeOf}
 use Rattle.sheets.specs.code.Reader.{got, readWord, readLine, formed, readLines}
 use Rattle.sheets.specs.Names.{Known, lookup}
 use Rattle.sheets.specs.Table.{when}
 use Rattle.sheets.specs.Refusals.{stop, refusalNumber}
-use Rattle.sheets.specs.Machine.{Out, goes, stops, sticks, meet, eval, State, steps, numbered}
+use Rattle.sheets.specs.Machine.{Out, goes, stops, sticks, meet, eval, State, steps}
 use Rattle.sheets.specs.declared.answers.RunAnswer.{RunAnswer}
 use Rattle.sheets.specs.Answers.{laid, ranAnswer, ranText}
 use Rattle.sheets.specs.Claim.{Unstuck}

@@ -6,9 +6,8 @@ use mathlib.Core.Bool.{Bool, true, false}
 use mathlib.Core.List.{List, _∷_}
 use lib.Dec.{eqb}
 use lib.ListN.{length, getD, take}
-use Rattle.sheets.specs.Machine.{numbered}
 use Rattle.sheets.specs.Text.{Word}
-use Rattle.sheets.specs.Trees.{Expr, Exprs, Line, let-line, show-line}
+use Rattle.sheets.specs.Trees.{Expr, Exprs, Line, let-line, show-line, numbered}
 use Rattle.sheets.specs.Grammar.{IsWord}
 use Rattle.sheets.specs.code.Codes.{codeOf}
 use Rattle.sheets.specs.code.Reader.{Got, got, readArgs, readExpr, formed, readLines}

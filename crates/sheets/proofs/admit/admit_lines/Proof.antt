@@ -5,8 +5,7 @@ use mathlib.Core.Path.{_≡_, refl}
 use mathlib.Core.List.{List}
 use lib.ListN.{length, length-set}
 use borrow.Author.Needs.{needs}
-use Rattle.sheets.specs.Machine.{numbered}
-use Rattle.sheets.specs.Trees.{Line}
+use Rattle.sheets.specs.Trees.{Line, numbered}
 use Rattle.sheets.specs.code.Reader.{formed, readLines}
 use Rattle.sheets.specs.Check.{stepsᶜ, startᶜ}
 use Rattle.sheets.proofs.AdmitSteps.{Midway, midway-start, walk-done, walk-over, walk-fault, walk-on}

@@ -1,7 +1,6 @@
 -- `sheets::check::is_sized` meets its contract. Assumes nothing.
 use borrow.Author.Tests.{le-leb, lt-leb}
 use mathlib.Core.Path.{refl}
-use borrow.Author.Needs.{needs}
 use Rattle.sheets.proofs.check.is_sized.Statement.{statement}
 use Rattle.sheets.proofs.check.is_sized.Tie as tie
 

@@ -6,7 +6,6 @@ use lib.ListN.{length, length-set}
 use Rattle.sheets.specs.code.Writing.{writes, part}
 use Rattle.sheets.proofs.WritingLaws.{name-turn}
 use Rattle.sheets.proofs.AnswerSteps.{codes-put}
-use borrow.Author.Needs.{needs}
 use Rattle.sheets.proofs.check.put_codes.Statement.{statement}
 use Rattle.sheets.proofs.check.put_codes.Tie as tie
 

@@ -1,7 +1,4 @@
 -- `sheets::lines_run::reading` meets its contract. Assumes nothing.
-use borrow.Author.Tests.{le-leb, lt-leb}
-use mathlib.Core.Path.{refl, sym}
-use Rattle.sheets.specs.code.Running.{readingFound}
 use Rattle.sheets.proofs.KnownLaws.{reading-none, reading-in, reading-lacking}
 use borrow.Author.Needs.{needs}
 use Rattle.sheets.proofs.lines_run.reading.Statement.{statement}

@@ -2,7 +2,6 @@
 use borrow.Author.Tests.{ne-eqb}
 use mathlib.Core.Path.{refl}
 use Rattle.sheets.specs.code.Running.{readingIndex, indexIn}
-use borrow.Author.Needs.{needs}
 use Rattle.sheets.proofs.lines_run.reading_index.Statement.{statement}
 use Rattle.sheets.proofs.lines_run.reading_index.Tie as tie
 
