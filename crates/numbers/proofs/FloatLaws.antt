@@ -236,11 +236,11 @@ zero-times f (fin s m e) t = (
 
 -- ---- the remainder of a value that is smaller than the divisor is itself
 
-rem-inf : (f : Format) (s : Bool) (m : ℕ) (e : ℤ) (t : Bool) → rem f (fin s m e) (inf t) ≡ fin s m e
+pub rem-inf : (f : Format) (s : Bool) (m : ℕ) (e : ℤ) (t : Bool) → rem f (fin s m e) (inf t) ≡ fin s m e
 unfolding rem
 rem-inf f s m e t = refl
 
-rem-fin : (f : Format) (s : Bool) (m : ℕ) (e : ℤ) (t : Bool) (n : ℕ) (d : ℤ) → T (fits f (fin s m e)) → m * up e * down d < n * up d * down e → rem f (fin s m e) (fin t n d) ≡ fin s m e
+pub rem-fin : (f : Format) (s : Bool) (m : ℕ) (e : ℤ) (t : Bool) (n : ℕ) (d : ℤ) → T (fits f (fin s m e)) → m * up e * down d < n * up d * down e → rem f (fin s m e) (fin t n d) ≡ fin s m e
 unfolding rem
 rem-fin f s m e t n d h l = go (eqb n 0) (eqb→eq n 0)
   where

@@ -4,6 +4,8 @@ pub mod FloatLaws
 pub mod NoNan
 pub mod Quotient
 pub mod Isqrt
+pub mod Modulo
+pub mod Values
 pub mod Halves
 pub mod Rounded
 pub mod SignLaws
@@ -13,11 +15,9 @@ pub mod RootGrid
 pub mod RootLaw
 pub mod Bounds
 pub mod WholeLaw
+pub mod RemLaws
 pub mod CeilLaw
 pub mod Range
-pub mod Modulo
-pub mod Values
-pub mod RemLaws
 pub mod FitLaws
 pub mod AngleLaws
 pub mod VecLaws

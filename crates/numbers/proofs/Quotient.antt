@@ -4,25 +4,20 @@ use Prim.Native.Nat.{ℕ, zero, suc, _+_, _*_, _^_, _≤_, _<_}
 use native.Mathlib.Nat.{mul-one, mul-pos}
 use native.Mathlib.Omega.{arith}
 use mathlib.Core.Bool.{Bool, true, false, cond, true≢false}
-use lib.IntN.{ℤ, pos}
+use lib.IntN.{pos}
 use lib.Dec.{T, le→leb, ltb, eqb, eqb→eq, not-T}
 use lib.Ieee.{inFloat, Float, nan, inf, fin, Format, binary64, low, emax, prec, up, down, odd, units, round, div, neg, ofInt}
 use lib.Ieee.Fits.{down-pos, round-is}
 use lib.Ieee.Exact.{HasValue}
 use lib.Ieee.Scale.{round-same}
 use lib.Ieee.Bits.{cond-no}
+use Rattle.numbers.proofs.Values.{no-digits}
 use Rattle.numbers.proofs.WholeLaw.{whole-val}
 
 cross : (a b n d e g : ℕ) → a * 1 ≡ n * e → b * 1 ≡ d * g → a * g * d ≡ n * (b * e)
 cross a b n d e g h k =
     let x : a * g * d ≡ n * e * g * d = ap (λ (z : ℕ). z * g * d) (sym (mul-one a) ∙ h) in
     let y : n * (b * e) ≡ n * (d * g * e) = ap (λ (z : ℕ). n * (z * e)) (sym (mul-one b) ∙ k) in
-    omega arith
-
-no-zero : (m : ℕ) (e : ℤ) (d : ℕ) → 0 < d → m * up e * 1 ≡ d * down e → m ≡ 0 → ⊥
-no-zero m e d p h z =
-    let q : 0 < d * down e = mul-pos p (down-pos e) in
-    let w : m * up e * 1 ≡ 0 * up e * 1 = ap (λ (x : ℕ). x * up e * 1) z in
     omega arith
 
 pub div-at : (x y : Float) (n d : ℕ) → 0 < d → HasValue x false n 1 → HasValue y false d 1 → div binary64 x y ≡ round binary64 false n d
@@ -35,7 +30,7 @@ div-at (fin true m e) (fin t m' e') n d p h k = absurd (true≢false (h .0))
 div-at (fin false m e) (fin true m' e') n d p h k = absurd (true≢false (k .0))
 div-at (fin false m e) (fin false m' e') n d p h k =
     let P : 0 < m' * up e' * down e = mul-pos (first (m' * up e') (d * down e') (mul-pos p (down-pos e')) (k .1)) (down-pos e) in
-    cond-no (eqb m' 0) (cond (eqb m 0) nan (inf false)) (round binary64 false (m * up e * down e') (m' * up e' * down e)) (not-T (eqb m' 0) (λ (t : T (eqb m' 0)). no-zero m' e' d p (k .1) (eqb→eq m' 0 t)))
+    cond-no (eqb m' 0) (cond (eqb m 0) nan (inf false)) (round binary64 false (m * up e * down e') (m' * up e' * down e)) (not-T (eqb m' 0) (λ (t : T (eqb m' 0)). no-digits m' e' d 1 p (k .1) (eqb→eq m' 0 t)))
     ∙ round-same binary64 false (m * up e * down e') (m' * up e' * down e) n d P p (cross (m * up e) (m' * up e') n d (down e) (down e') (h .1) (k .1))
   where
     first : (a b : ℕ) → 0 < b → a * 1 ≡ b → 0 < a

@@ -1,34 +1,32 @@
--- What `remainder` answers in each of its cases. Assumes nothing.
+-- What `rem` answers in each of its cases. Assumes nothing.
 use mathlib.Core.Path.{_≡_, refl, sym, ap, ap₂, _∙_, subst}
 use mathlib.Core.Logic.{inl, inr}
 use Prim.Native.Nat.{ℕ, zero, suc, _+_, _-_, _*_, _/_, _%_, _^_, _≤_, _<_}
-use native.Mathlib.Nat.{one-mul, mul-pos, mul-assoc, mod-eq-of-lt, mod-lt, mul-le-mul-right, mul-lt-mul-of-pos-right}
+use native.Mathlib.Nat.{one-mul, mul-pos, mul-assoc, mod-lt, mul-lt-mul-of-pos-right, lt-of-mul-lt-mul-right}
 use native.Mathlib.Omega.{arith}
 use mathlib.Core.Bool.{Bool, true, false, cond}
-use lib.Dec.{T, eqb, le→leb, leb→le, lt→ltb}
-use lib.Pow.{pow-pos, pow-mono, pow-add}
+use lib.Dec.{T, eqb, le→leb, leb→le}
+use lib.Pow.{pow-pos, pow-add}
 use lib.IntN.{pos}
-use lib.Ieee.{Float, nan, inf, fin, binary64, up, down, unlike, round, ofFields, ofBits, toBits, ofInt, isNan, fits, rem, mul}
-use lib.Ieee.Fits.{up-pos, eq→eqb}
+use lib.Ieee.{Float, nan, inf, fin, binary64, up, down, unlike, round, ofFields, ofBits, toBits, ofInt, fits, rem, mul}
+use lib.Ieee.Fits.{up-pos, down-pos, eq→eqb}
 use lib.Ieee.Exact.{HasValue}
-use lib.Ieee.Bits.{ofBits-toBits, toBits-lt, nanBits-above, nanBits-is, is-true}
+use lib.Ieee.Bits.{ofBits-toBits, toBits-lt, is-true}
 use Rattle.numbers.proofs.Isqrt.{below-or-not}
-use Rattle.numbers.proofs.Rounded.{ofBits-is}
-use Rattle.numbers.proofs.RoundLaw.{round-own}
-use Rattle.numbers.proofs.WholeLaw.{whole-val}
-use Rattle.numbers.specs.code.RootSteps.{unitsAt, unitsOf}
-use Rattle.numbers.specs.code.RemainderSteps.{Parted, UnitBits}
+use Rattle.numbers.specs.code.Units.{unitsOf, Parted, UnitBits}
 use Rattle.numbers.proofs.Modulo.{mod-scale}
-use Rattle.numbers.proofs.Values.{signOf, value, rem-at, mul-at}
+use Rattle.numbers.proofs.Values.{signOf, value, subnormal, units-mono, units-pos, over, rem-at, mul-at}
+use Rattle.numbers.proofs.NoNan.{nan-bits}
+use Rattle.numbers.proofs.SignLaws.{as-fields}
+use Rattle.numbers.proofs.FloatLaws.{rem-inf, rem-fin}
+use Rattle.numbers.proofs.WholeLaw.{same-test, whole-val}
 
 -- the bits of x without their sign
 abbrev pub size : Float → ℕ
 size x = toBits binary64 x % 9223372036854775808
 
-pub fields : (x : Float) → T (fits binary64 x) → x ≡ ofFields binary64 (signOf (toBits binary64 x)) (size x / 4503599627370496) (toBits binary64 x % 4503599627370496)
-fields x f = sym (ofBits-toBits binary64 x f) ∙ ofBits-is (toBits binary64 x)
-
-pub has : (x : Float) → T (fits binary64 x) → size x < 9218868437227405312 → HasValue x (signOf (toBits binary64 x)) (unitsOf (size x)) (2 ^ 1074)
+-- the value of a finite x, by its bits
+has : (x : Float) → T (fits binary64 x) → size x < 9218868437227405312 → HasValue x (signOf (toBits binary64 x)) (unitsOf (size x)) (2 ^ 1074)
 has x f h = subst (λ (v : Float). HasValue v (signOf (toBits binary64 x)) (unitsOf (size x)) (2 ^ 1074)) (ofBits-toBits binary64 x f) (value (toBits binary64 x) h)
 
 -- ---- no number
@@ -55,22 +53,10 @@ not-finite x y f h =
     let q : size x / 4503599627370496 ≡ 2047 = omega arith in
     let s = signOf (toBits binary64 x) in
     let t = toBits binary64 x % 4503599627370496 in
-    top-field s t y ∙ sym (ap (λ (v : Float). rem binary64 v y) (fields x f ∙ ap (λ (z : ℕ). ofFields binary64 s z t) q))
-
-is-nan : (x : Float) → T (isNan x) → x ≡ nan
-unfolding isNan
-is-nan nan h = refl
-is-nan (inf s) h = absurd h
-is-nan (fin s m e) h = absurd h
+    top-field s t y ∙ sym (ap (λ (v : Float). rem binary64 v y) (sym (as-fields x f) ∙ ap (λ (z : ℕ). ofFields binary64 s z t) q))
 
 pub by-nan : (x y : Float) → T (fits binary64 y) → 9218868437227405312 < size y → nan ≡ rem binary64 x y
-by-nan x y f h =
-    let b = toBits binary64 y in
-    nan-rem x y (sym (ofBits-toBits binary64 y f) ∙ is-nan (ofBits binary64 b) (subst T (sym (nanBits-above binary64 b) ∙ nanBits-is binary64 b) (lt→ltb 9218868437227405312 (size y) h)))
-
-no-units : unitsOf 0 ≡ 0
-unfolding unitsOf
-no-units = refl
+by-nan x y f h = nan-rem x y (sym (ofBits-toBits binary64 y f) ∙ sym (nan-bits (toBits binary64 y) h))
 
 zero-of : (n u L D : ℕ) → 0 < u → 0 < L → n * u * L ≡ 0 * D → n ≡ 0
 zero-of zero u L D p q e = refl
@@ -89,65 +75,39 @@ rem-zero (fin s m e) (fin u n d) t L p k =
 pub by-zero : (x y : Float) → T (fits binary64 y) → size y ≡ 0 → nan ≡ rem binary64 x y
 by-zero x y f e =
     let s = signOf (toBits binary64 y) in
-    rem-zero x y s (2 ^ 1074) (pow-pos 1074) (subst (λ (n : ℕ). HasValue y s n (2 ^ 1074)) (ap unitsOf e ∙ no-units) (has y f (omega arith)))
+    rem-zero x y s (2 ^ 1074) (pow-pos 1074) (subst (λ (n : ℕ). HasValue y s n (2 ^ 1074)) (ap unitsOf e ∙ subnormal 0 (omega arith)) (has y f (omega arith)))
 
 -- ---- the smaller by the larger
 
-finite-by-inf : (x : Float) (s t : Bool) (X L : ℕ) → HasValue x s X L → x ≡ rem binary64 x (inf t)
-unfolding rem
+finite-by-inf : (x : Float) (s t : Bool) (X L : ℕ) → HasValue x s X L → rem binary64 x (inf t) ≡ x
 finite-by-inf nan s t X L h = absurd h
 finite-by-inf (inf u) s t X L h = absurd h
-finite-by-inf (fin u m e) s t X L h = refl
+finite-by-inf (fin u m e) s t X L h = rem-inf binary64 u m e t
+
+finite-by-more : (x y : Float) (s t : Bool) (X Y L : ℕ) → T (fits binary64 x) → 0 < L → HasValue x s X L → HasValue y t Y L → X < Y → rem binary64 x y ≡ x
+finite-by-more nan y s t X Y L f p h k l = absurd h
+finite-by-more (inf u) y s t X Y L f p h k l = absurd h
+finite-by-more (fin u m e) nan s t X Y L f p h k l = absurd k
+finite-by-more (fin u m e) (inf v) s t X Y L f p h k l = absurd k
+finite-by-more (fin u m e) (fin v n d) s t X Y L f p h k l =
+    let a : m * up e * down d * L ≡ X * (down e * down d) = over (m * up e) (down d) (down e) X L (h .1) in
+    let b : n * up d * down e * L ≡ Y * (down d * down e) = over (n * up d) (down e) (down d) Y L (k .1) in
+    let g : X * (down e * down d) < Y * (down e * down d) = mul-lt-mul-of-pos-right l (mul-pos (down-pos e) (down-pos d)) in
+    rem-fin binary64 u m e v n d f (lt-of-mul-lt-mul-right L (omega arith))
 
 inf-field : (s : Bool) → ofFields binary64 s 2047 0 ≡ inf s
 unfolding ofFields
 inf-field s = refl
 
-units-less : (q t r u : ℕ) → t < 4503599627370496 → u < 4503599627370496 → q * 4503599627370496 + t < r * 4503599627370496 + u → unitsAt q t < unitsAt r u
-units-less zero t zero u h k l = omega arith
-units-less zero t (suc y) u h k l =
-    let a : 1 * 4503599627370496 ≤ 2 ^ y * 4503599627370496 = mul-le-mul-right 4503599627370496 (pow-pos y) in
-    let b : 4503599627370496 * 2 ^ y ≤ (4503599627370496 + u) * 2 ^ y = mul-le-mul-right (2 ^ y) (omega arith) in
-    omega arith
-units-less (suc x) t zero u h k l = absurd (omega arith)
-units-less (suc x) t (suc y) u h k l = elim (below-or-not x y) [
-  | inl m ↦
-      let a : (4503599627370496 + t) * 2 ^ x < 9007199254740992 * 2 ^ x = mul-lt-mul-of-pos-right (omega arith) (pow-pos x) in
-      let b : 2 ^ (1 + x) ≤ 2 ^ y = pow-mono (omega arith) in
-      let d : 2 ^ (1 + x) ≡ 2 * 2 ^ x = pow-add 2 1 x in
-      let e : 4503599627370496 * 2 ^ y ≤ (4503599627370496 + u) * 2 ^ y = mul-le-mul-right (2 ^ y) (omega arith) in
-      omega arith
-  | inr m ↦
-      let e : x ≡ y = omega arith in
-      subst (λ (z : ℕ). (4503599627370496 + t) * 2 ^ x < (4503599627370496 + u) * 2 ^ z) e (mul-lt-mul-of-pos-right (omega arith) (pow-pos x))
-]
-
-pub units-mono : (a d : ℕ) → a < d → unitsOf a < unitsOf d
-unfolding unitsOf
-units-mono a d h = units-less (a / 4503599627370496) (a % 4503599627370496) (d / 4503599627370496) (d % 4503599627370496) (omega arith) (omega arith) (omega arith)
-
--- a finite value of the format is rounded to itself
-pub own : (x : Float) (s : Bool) (X : ℕ) → T (fits binary64 x) → HasValue x s X (2 ^ 1074) → round binary64 s X (2 ^ 1074) ≡ x
-own nan s X f h = absurd h
-own (inf t) s X f h = absurd h
-own (fin t m e) s X f h = ap (λ (u : Bool). round binary64 u X (2 ^ 1074)) (sym (h .0)) ∙ round-own binary64 t m e X (2 ^ 1074) f (pow-pos 1074) (sym (h .1))
-
 pub smaller : (x y : Float) → T (fits binary64 x) → T (fits binary64 y) → size x < 9218868437227405312 → size y ≤ 9218868437227405312 → size x < size y → x ≡ rem binary64 x y
 smaller x y f g h k l = elim (below-or-not (size y) 9218868437227405312) [
   | inl m ↦
-      let s = signOf (toBits binary64 x) in
-      let X = unitsOf (size x) in
-      let Y = unitsOf (size y) in
-      let u : X < Y = units-mono (size x) (size y) l in
-      sym (rem-at x y s (signOf (toBits binary64 y)) X Y (2 ^ 1074) (pow-pos 1074) (omega arith) (has x f h) (has y g m)
-      ∙ ap (λ (z : ℕ). round binary64 s z (2 ^ 1074)) (mod-eq-of-lt u)
-      ∙ own x s X f (has x f h))
+      sym (finite-by-more x y (signOf (toBits binary64 x)) (signOf (toBits binary64 y)) (unitsOf (size x)) (unitsOf (size y)) (2 ^ 1074) f (pow-pos 1074) (has x f h) (has y g m) (units-mono (size x) (size y) l))
   | inr m ↦
       let q : size y / 4503599627370496 ≡ 2047 = omega arith in
       let r : toBits binary64 y % 4503599627370496 ≡ 0 = omega arith in
       let t = signOf (toBits binary64 y) in
-      finite-by-inf x (signOf (toBits binary64 x)) t (unitsOf (size x)) (2 ^ 1074) (has x f h)
-      ∙ ap (rem binary64 x) (sym (fields y g ∙ ap₂ (ofFields binary64 t) q r ∙ inf-field t))
+      sym (ap (rem binary64 x) (sym (as-fields y g) ∙ ap₂ (ofFields binary64 t) q r ∙ inf-field t) ∙ finite-by-inf x (signOf (toBits binary64 x)) t (unitsOf (size x)) (2 ^ 1074) (has x f h))
 ]
 
 -- ---- the larger by the smaller
@@ -155,12 +115,6 @@ smaller x y f g h k l = elim (below-or-not (size y) 9218868437227405312) [
 unlike-plus : (s : Bool) → unlike false s ≡ s
 unlike-plus true = refl
 unlike-plus false = refl
-
-pub same-test : (a b : Bool) → (T a → T b) → (T b → T a) → a ≡ b
-same-test true true h k = refl
-same-test true false h k = absurd (h tt)
-same-test false true h k = absurd (k tt)
-same-test false false h k = refl
 
 -- the bits u of a number, with the sign of b
 module _ (b u : ℕ) (h : b < 2 ^ 64) (k : u < 9218868437227405312) where
@@ -173,12 +127,13 @@ module _ (b u : ℕ) (h : b < 2 ^ 64) (k : u < 9218868437227405312) where
       (λ t. le→leb 9223372036854775808 b (let l = leb→le 9223372036854775808 (b - b % 9223372036854775808 + u) t in omega arith))
       (λ t. le→leb 9223372036854775808 (b - b % 9223372036854775808 + u) (let l = leb→le 9223372036854775808 b t in omega arith))
 
-  pub signed-value : HasValue (ofBits binary64 (b - b % 9223372036854775808 + u)) (signOf b) (unitsOf u) (2 ^ 1074)
+  signed-value : HasValue (ofBits binary64 (b - b % 9223372036854775808 + u)) (signOf b) (unitsOf u) (2 ^ 1074)
   signed-value =
       subst (λ (s : Bool). HasValue (ofBits binary64 (b - b % 9223372036854775808 + u)) s (unitsOf u) (2 ^ 1074)) signed-sign
       (subst (λ (n : ℕ). HasValue (ofBits binary64 (b - b % 9223372036854775808 + u)) (signOf (b - b % 9223372036854775808 + u)) (unitsOf n) (2 ^ 1074)) signed-size
       (value (b - b % 9223372036854775808 + u) (omega (arith, signed-size))))
 
+-- a common power of two stays
 shares : (m e n g : ℕ) → 0 < n → g ≤ e → m * 2 ^ e % (n * 2 ^ g) ≡ m * 2 ^ (e - g) % n * 2 ^ g
 shares m e n g p h =
     let i : e - g + g ≡ e = omega arith in
@@ -193,7 +148,7 @@ larger x y m e n g rest u f k h z l P Q R U =
     let N : 0 < n = Q .some (omega arith) in
     let G : g ≤ e = omega (arith, P .field, Q .field) in
     let M : rest < n = subst (λ (v : ℕ). v < n) (sym R) (mod-lt (m * 2 ^ (e - g)) N) in
-    let Y : 0 < unitsOf (size y) = subst (λ (v : ℕ). 0 < v) (sym (Q .is)) (mul-pos N (pow-pos g)) in
+    let Y : 0 < unitsOf (size y) = units-pos (size y) (omega arith) in
     let a : rem binary64 x y ≡ round binary64 s (unitsOf (size x) % unitsOf (size y)) (2 ^ 1074) =
     rem-at x y s (signOf (toBits binary64 y)) (unitsOf (size x)) (unitsOf (size y)) (2 ^ 1074) (pow-pos 1074) Y (has x f h) (has y k (omega arith)) in
     let b : unitsOf (size x) % unitsOf (size y) ≡ rest * 2 ^ g =

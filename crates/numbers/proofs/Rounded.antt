@@ -2,22 +2,24 @@
 use mathlib.Core.Path.{_≡_, refl, sym, ap, _∙_, subst}
 use mathlib.Core.Logic.{inl, inr}
 use Prim.Native.Nat.{ℕ, zero, suc, _+_, _-_, _*_, _/_, _%_, _^_, _≤_, _<_, compare, Ordering, Ordering·lt, Ordering·eq, Ordering·gt}
-use native.Mathlib.Nat.{le-trans, le-refl, le-of-eq, lt-of-lt-of-le, lt-of-not-le, not-le-of-lt, mul-one, zero-mul, mul-comm, mul-assoc, mul-right-comm, mul-le-mul, mul-le-mul-right, mul-lt-mul-of-pos-right, mul-pos, mul-div-cancel, div-add-mod', le-div-iff-mul-le, div-lt-iff-lt-mul, pow-suc}
+use native.Mathlib.Nat.{le-trans, le-refl, le-of-eq, lt-of-lt-of-le, lt-of-not-le, not-le-of-lt, mul-comm, mul-assoc, mul-right-comm, mul-le-mul, mul-le-mul-right, mul-lt-mul-of-pos-right, mul-pos, mul-div-cancel, div-add-mod', le-div-iff-mul-le, div-lt-iff-lt-mul, pow-suc}
 use native.Mathlib.Omega.{arith}
 use mathlib.Core.Bool.{Bool, true, false, not, cond, true≢false}
-use lib.Dec.{T, leb, eqb, isLe, isEq, leb→le, nleb→lt, eqb→eq, eqb-refl, not-T, lit<}
+use lib.Dec.{T, eqb, isLe, isEq, leb→le, nleb→lt, eqb→eq, eqb-refl, lit<}
 use lib.Arith.{lt-of-le-ne}
 use lib.Pow.{pow-pos, pow-mono, pow-add}
-use lib.Ieee.{Float, nan, inf, fin, binary64, up, down, size, nearest, odd, units, round, ofFields, ofBits, toBits, fits}
+use lib.Ieee.{Float, nan, inf, fin, binary64, up, down, size, nearest, units, round, ofBits, toBits, fits}
 use lib.Ieee.Digits.{size-lt, size-le}
 use lib.Ieee.Fits.{round-is, round-fits, core, down-pos}
-use lib.Ieee.Exact.{HasValue, units-val, odd-sign}
+use lib.Ieee.Exact.{HasValue, units-val}
 use lib.Ieee.Nearest.{closest, closest-same, div-same}
-use lib.Ieee.Bits.{ofBits-toBits, is-false, cond-no}
+use lib.Ieee.Bits.{ofBits-toBits}
 use Rattle.numbers.specs.Root.{sqrt, halves}
-use Rattle.numbers.specs.code.RootSteps.{unitsOf, unitsAt, Squared, Rounds, Lifted, RootOf}
+use Rattle.numbers.specs.code.Units.{unitsOf}
+use Rattle.numbers.specs.code.RootSteps.{Squared, Rounds, Lifted, RootOf}
 use Rattle.numbers.proofs.Isqrt.{below-or-not, four}
 use Rattle.numbers.proofs.Halves.{Placed, placed}
+use Rattle.numbers.proofs.Values.{pattern, units-pos, no-digits}
 
 -- ---- what `compare` says
 abbrev Cmp : Ordering → ℕ → ℕ → Type 0
@@ -146,50 +148,16 @@ units-bits q g l u h f =
         let b : 2 ^ (53 + g) ≤ 2 ^ 1587 = pow-mono {j = 1587} (omega arith) in
         lt-of-lt-of-le (lt-of-lt-of-le (lt-suc-of a) (le-trans (suc-le (le-trans (le-of-eq (sym (pow-add 2 53 g))) b)) (suc-pow))) (le-refl (2 ^ 2098))
 
--- ---- the value of a pattern
-pub ofBits-is : (b : ℕ) → ofBits binary64 b ≡ ofFields binary64 (leb 9223372036854775808 b) (b % 9223372036854775808 / 4503599627370496) (b % 4503599627370496)
-unfolding ofBits
-ofBits-is b = refl
-
-fields-val : (x t : ℕ) → x < 2047 → HasValue (ofFields binary64 false x t) false (unitsAt x t) (2 ^ 1074)
-unfolding ofFields
-fields-val zero t h = subst (λ (n : ℕ). HasValue (odd 53 false t 0 1074) false n (2 ^ 1074)) (mul-one t) (odd-sign 53 false t 0 1074)
-fields-val (suc x) t h =
-    subst (λ (v : Float). HasValue v false ((4503599627370496 + t) * 2 ^ x) (2 ^ 1074))
-    (sym (cond-no (eqb (suc x) 2047) (cond (eqb t 0) (inf false) nan) (odd 53 false (4503599627370496 + t) x 1074) (not-T (eqb (suc x) 2047) (λ (u : T (eqb (suc x) 2047)). differ (eqb→eq (suc x) 2047 u)))))
-    (odd-sign 53 false (4503599627370496 + t) x 1074)
-  where
-    differ : suc x ≡ 2047 → ⊥
-    differ e = omega arith
-
-pub pattern : (b : ℕ) → b < 9218868437227405312 → HasValue (ofBits binary64 b) false (unitsOf b) (2 ^ 1074)
-unfolding unitsOf
-pattern b h =
-    let x : ofBits binary64 b ≡ ofFields binary64 false (b / 4503599627370496) (b % 4503599627370496) =
-    ofBits-is b
-    ∙ ap (λ (s : Bool). ofFields binary64 s (b % 9223372036854775808 / 4503599627370496) (b % 4503599627370496)) (is-false (leb 9223372036854775808 b) (not-T (leb 9223372036854775808 b) (λ (u : T (leb 9223372036854775808 b)). no (leb→le 9223372036854775808 b u))))
-    ∙ ap (λ (x : ℕ). ofFields binary64 false (x / 4503599627370496) (b % 4503599627370496)) low in
-    subst (λ (v : Float). HasValue v false (unitsAt (b / 4503599627370496) (b % 4503599627370496)) (2 ^ 1074)) (sym x) (fields-val (b / 4503599627370496) (b % 4503599627370496) (omega arith))
-  where
-    no : 9223372036854775808 ≤ b → ⊥
-    no u = omega arith
-
-    low : b % 9223372036854775808 ≡ b
-    low = omega arith
-
 -- ---- the root of a value
 times : (a n d L : ℕ) → 0 < d → a * L ≡ n * d → a * (L * L) / d ≡ n * L
 times a n d L p e = ap (λ (x : ℕ). x / d) (sym (mul-assoc a L L) ∙ ap (λ (x : ℕ). x * L) e ∙ mul-right-comm n d L) ∙ mul-div-cancel (n * L) p
-
-pub no-zero : (n d : ℕ) → 0 < n → 0 < d → 0 ≡ n * d → ⊥
-no-zero n d p q e = let h : 0 < n * d = mul-pos p q in omega arith
 
 pub sqrt-at : (x : Float) (n : ℕ) → 0 < n → HasValue x false n (2 ^ 1074) → sqrt x ≡ round binary64 false (halves (n * 2 ^ 1074)) (2 ^ 1075)
 unfolding sqrt
 sqrt-at nan n p h = absurd h
 sqrt-at (inf s) n p h = absurd h
 sqrt-at (fin true m e) n p h = absurd (true≢false (h .0))
-sqrt-at (fin false zero e) n p h = absurd (no-zero n (down e) p (down-pos e) (sym (ap (λ (x : ℕ). x * 2 ^ 1074) (zero-mul (up e)) ∙ zero-mul (2 ^ 1074)) ∙ h .1))
+sqrt-at (fin false zero e) n p h = absurd (no-digits zero e n (2 ^ 1074) p (h .1) refl)
 sqrt-at (fin false (suc m) e) n p h = ap (λ (x : ℕ). round binary64 false (halves x) (2 ^ 1075)) (times (suc m * up e) n (down e) (2 ^ 1074) (down-pos e) (h .1))
 
 -- ---- the root of a pattern
@@ -205,14 +173,6 @@ at-least w root rest s h = elim (below-or-not root 4503599627370496) [ inl l ↦
   where
     no : root < 4503599627370496 → suc root * suc root ≤ 4503599627370496 * 4503599627370496 → ⊥
     no l m = omega (arith, s .whole, s .less)
-
-units-pos : (x t : ℕ) → 0 < x * 4503599627370496 + t → 0 < unitsAt x t
-units-pos zero t h = omega arith
-units-pos (suc x) t h = mul-pos (omega arith) (pow-pos x)
-
-unitsOf-pos : (b : ℕ) → 0 < b → 0 < unitsOf b
-unfolding unitsOf
-unitsOf-pos b h = units-pos (b / 4503599627370496) (b % 4503599627370496) (omega arith)
 
 module _ (b w g root rest : ℕ) (B : 0 < b) (F : b < 9218868437227405312) (l : Lifted (unitsOf b * 2 ^ 1022) 1534 w g) (s : Squared w root rest) where
   at : Placed root rest (2 ^ g) (halves (unitsOf b * 2 ^ 1074))
@@ -230,7 +190,7 @@ module _ (b w g root rest : ℕ) (B : 0 < b) (F : b < 9218868437227405312) (l : 
       let r : round binary64 false a (2 ^ 1075) ≡ units binary64 false q g = round-at a g q (2 ^ 1074) refl (omega (arith, at .from)) (omega (arith, at .to)) e in
       record {
         is = units-bits q g lo hi (l .under) (subst (λ (v : Float). T (fits binary64 v)) r (round-fits binary64 false a (2 ^ 1075)))
-            ∙ sym (sqrt-at (ofBits binary64 b) (unitsOf b) (unitsOf-pos b B) (pattern b F) ∙ r);
+            ∙ sym (sqrt-at (ofBits binary64 b) (unitsOf b) (units-pos b B) (pattern b F) ∙ r);
         finite = omega (arith, l .under);
       }
 

@@ -3,11 +3,11 @@ use mathlib.Core.Path.{_≡_, refl, sym, ap, _∙_, subst}
 use mathlib.Core.Bool.{Bool, true, false, not, cond}
 use Prim.Native.Nat.{ℕ, zero, suc, _+_, _/_, _%_, _≤_, _<_, _^_}
 use native.Mathlib.Omega.{arith}
-use lib.Dec.{T, leb, eqb, leb→le, nleb→lt, nltb→le, not-T}
+use lib.Dec.{T, leb, eqb, leb→le, nleb→lt, nltb→le}
 use lib.Ieee.{Float, nan, inf, binary64, odd, ofFields, ofBits, toBits, isNan, nanBits, fits}
-use lib.Ieee.Bits.{ofBits-toBits, nanBits-is, nanBits-above, is-false}
+use lib.Ieee.Bits.{ofBits-toBits, nanBits-is, nanBits-above}
 use Rattle.numbers.specs.Floats.{signBit, signDigit, abs}
-use Rattle.numbers.proofs.Rounded.{ofBits-is}
+use Rattle.numbers.proofs.Values.{ofBits-is, unsigned}
 
 -- the digits and the exponent's field of a pattern, and the value that they stand for with a sign
 abbrev field : ℕ → ℕ
@@ -16,7 +16,7 @@ field b = b % 9223372036854775808 / 4503599627370496
 abbrev digits : ℕ → ℕ
 digits b = b % 4503599627370496
 
-as-fields : (x : Float) → T (fits binary64 x) → ofFields binary64 (leb 9223372036854775808 (toBits binary64 x)) (field (toBits binary64 x)) (digits (toBits binary64 x)) ≡ x
+pub as-fields : (x : Float) → T (fits binary64 x) → ofFields binary64 (leb 9223372036854775808 (toBits binary64 x)) (field (toBits binary64 x)) (digits (toBits binary64 x)) ≡ x
 as-fields x f = sym (ofBits-is (toBits binary64 x)) ∙ ofBits-toBits binary64 x f
 
 -- the bits of a number without its sign are no NaN's
@@ -81,14 +81,11 @@ fields-abs s (suc x) t = go (eqb (suc x) 2047) (eqb t 0)
     go true false = refl
     go false b = odd-abs 53 s (4503599627370496 + t) x 1074
 
-below : (b : ℕ) → T (leb 9223372036854775808 (b % 9223372036854775808)) → ⊥
-below b h = let l = leb→le 9223372036854775808 (b % 9223372036854775808) h in omega arith
-
 pub abs-bits : (x : Float) → T (fits binary64 x) → ofBits binary64 (toBits binary64 x % 9223372036854775808) ≡ abs x
 abs-bits x f =
     let b = toBits binary64 x in
     let a = b % 9223372036854775808 in
-    let p : leb 9223372036854775808 a ≡ false = is-false (leb 9223372036854775808 a) (not-T (leb 9223372036854775808 a) (below b)) in
+    let p : leb 9223372036854775808 a ≡ false = unsigned a (omega arith) in
     let q : field a ≡ field b = omega arith in
     let t : digits a ≡ digits b = omega arith in
     ofBits-is a ∙ (λ i. ofFields binary64 (p i) (q i) (t i)) ∙ fields-abs (leb 9223372036854775808 b) (field b) (digits b) ∙ ap abs (as-fields x f)

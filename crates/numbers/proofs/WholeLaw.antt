@@ -26,7 +26,7 @@ whole-val (negsuc n) h = round-whole binary64 true (suc n) h
 
 -- ---- products with a number above 0 compare as their factors
 
-same-test : (a b : Bool) → (T a → T b) → (T b → T a) → a ≡ b
+pub same-test : (a b : Bool) → (T a → T b) → (T b → T a) → a ≡ b
 same-test true true h k = refl
 same-test true false h k = absurd (h tt)
 same-test false true h k = absurd (k tt)

@@ -1,15 +1,15 @@
 // An angle: a wrapped number, in radians.
+use crate::float::PI;
 use crate::float::abs;
+use crate::float::rem;
 use crate::float::to_degrees;
 use crate::float::to_radians;
-use crate::remainder::remainder;
+use crate::numbers::EPSILON;
 ghost use mathlib.Core.Path.{_≡_};
 ghost use lib.Ieee as Ieee;
 ghost use Rattle.numbers.specs.Ops.{_⊕_, num, pick};
 ghost use Rattle.numbers.specs.Angles.{angle, fromDegrees, asDegrees, angleAbs, angleNeg, angleEq, normalisedTo};
 ghost use Rattle.numbers.specs.Angles as Angles;
-
-const PI: f64 = 3.141592653589793;
 
 pub struct Angle(pub f64);
 
@@ -26,7 +26,7 @@ impl Angle {
 
     pub const FULL_CIRCLE: Angle = Angle(2.0 * PI);
 
-    pub const DBL_EPSILON: Angle = Angle(2.220446049250313e-16);
+    pub const DBL_EPSILON: Angle = Angle(EPSILON);
 
     pub fn as_degrees(self) -> f64
         ensures { λ r. ⌜ r ≡ asDegrees self ⌝ }
@@ -97,10 +97,10 @@ fn normalised_radians(radians: f64, max: f64) -> f64
         if radians < max {
             radians
         } else {
-            lifted(remainder(radians, max), max)
+            lifted(rem(radians, max), max)
         }
     } else {
-        lifted(remainder(radians, max), max)
+        lifted(rem(radians, max), max)
     }
 }
 

@@ -1,7 +1,9 @@
 // Arctangent and arcsine, document 01's steps.
+use crate::float::PI;
 use crate::float::abs;
 use crate::float::sign_bit;
 use crate::root::sqrt;
+use crate::units::MINUS_ZERO_BITS;
 ghost use mathlib.Core.Path.{_≡_};
 ghost use Prim.Native.Nat.{_≤_};
 ghost use lib.Dec.{eqb};
@@ -10,8 +12,6 @@ ghost use Rattle.numbers.specs.Ops.{_⊕_, _⊖_, _⊘_, num, pick};
 ghost use Rattle.numbers.specs.Floats.{pi};
 ghost use Rattle.numbers.specs.Arctangent as Arctangent;
 ghost use Rattle.numbers.specs.Arctangent.{atanPoly, atanUnit, atanBase, turnedBy, negatedBy};
-
-const PI: f64 = 3.141592653589793;
 
 // Where A(t) breaks: about the tangent of an eighth of PI.
 const BREAK: f64 = 0.41421356;
@@ -23,12 +23,10 @@ const SIN_45: f64 = 0.70710678;
 
 const SIN_67: f64 = 0.92387953;
 
-// The bits of PI, 1.0 and minus zero.
+// The bits of PI and of 1.0.
 const PI_BITS: u64 = 0x4009_21fb_5444_2d18;
 
 const ONE_BITS: u64 = 0x3ff0_0000_0000_0000;
-
-const MINUS_ZERO_BITS: u64 = 0x8000_0000_0000_0000;
 
 // T(u)
 fn atan_poly(u: f64) -> f64

@@ -1,15 +1,16 @@
-// The bits of a double, the smaller methods of f64 that the Rust uses, and the double of a decimal numeral.
-use crate::remainder::remainder;
+// The bits of a double, the smaller methods of f64 that the Rust uses, its `%`, and the double of a decimal numeral.
+use crate::units::INFINITY_BITS;
+use crate::units::SIGN;
+use crate::units::parts;
+use crate::units::shifted;
+use crate::units::unit_bits;
 ghost use mathlib.Core.Path.{_≡_};
 ghost use Prim.Native.Nat.{_≤_, _<_, _^_};
 ghost use lib.Ieee.{binary64, ofBits, toBits};
 ghost use Rattle.numbers.specs.Floats as Floats;
 ghost use Rattle.numbers.specs.Floats.{signDigit, clampUnit, toRadians, toDegrees, nearest};
 
-const PI: f64 = 3.141592653589793;
-
-// The weight of the sign bit.
-const SIGN: u64 = 0x8000_0000_0000_0000;
+pub const PI: f64 = 3.141592653589793;
 
 // The bits of any double; for any NaN 7ff8000000000000.
 pub fn bits(x: f64) -> u64
@@ -25,7 +26,7 @@ pub fn bits(x: f64) -> u64
 pub fn double(bits: u64) -> f64
     ensures { λ r. ⌜ r ≡ ofBits binary64 bits ⌝ }
 {
-    if bits % SIGN > 0x7ff0_0000_0000_0000 {
+    if bits % SIGN > INFINITY_BITS {
         return 0.0 / 0.0;
     }
     f64::from_bits(bits)
@@ -75,11 +76,30 @@ pub fn to_degrees(x: f64) -> f64
     x * (180.0 / PI)
 }
 
-// Rust's `%`.
+// Rust's `%`: x less as many times y as fit in it, exactly, with the sign of x. It is worked out in whole numbers, with no call of the C library.
+// The last product is exact: what is left has at most 53 digits, and the other factor is one of the last place of y, with the sign of x.
 pub fn rem(x: f64, y: f64) -> f64
     ensures { λ r. ⌜ r ≡ Floats.remainder x y ⌝ }
 {
-    remainder(x, y)
+    let b = bits(x);
+    let a = b % SIGN;
+    let d = bits(y) % SIGN;
+    if a >= INFINITY_BITS {
+        return 0.0 / 0.0;
+    }
+    if d > INFINITY_BITS {
+        return 0.0 / 0.0;
+    }
+    if d == 0 {
+        return 0.0 / 0.0;
+    }
+    if a < d {
+        return x;
+    }
+    let p = parts(a);
+    let q = parts(d);
+    let rest = shifted(p.m, p.e - q.e, q.m);
+    rest as f64 * double(b - a + unit_bits(q.e))
 }
 
 // The double nearest to digits / tens, ties to even, negated where `negative`. Digits and tens are doubles exactly.

@@ -6,7 +6,6 @@ pub mod length;
 pub mod mat33;
 pub mod numbers;
 pub mod powers;
-pub mod remainder;
 pub mod root;
 pub mod sine;
 mod units;

@@ -3,7 +3,7 @@ use crate::float::abs;
 ghost use mathlib.Core.Path.{_≡_};
 ghost use Rattle.numbers.specs.Floats.{near, nearZero, nearOrBelow, nearOrAbove};
 
-const EPSILON: f64 = 2.220446049250313e-16;
+pub const EPSILON: f64 = 2.220446049250313e-16;
 
 pub fn eq_zero(f: f64) -> bool
     ensures { λ r. ⌜ r ≡ nearZero f ⌝ }

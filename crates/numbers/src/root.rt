@@ -1,23 +1,20 @@
 // The square root: a number is guessed by steps on doubles and tested in whole numbers, and where the test fails so are its two neighbours; where none is the root, the digits are found one by one.
 // The bits of x are w * 4^g with a w of 53 or 54 digits, and the root of w * 2^52 is the digits of the root of x.
+use crate::units::INFINITY_BITS;
+use crate::units::MINUS_ZERO_BITS;
+use crate::units::TWO_52;
 ghost use mathlib.Core.Path.{_≡_};
 ghost use mathlib.Core.Bool.{true};
 ghost use Prim.Native.Nat.{_+_, _*_, _<_, _≤_, _^_};
 ghost use lib.Ieee.{binary64, ofBits};
 ghost use Rattle.numbers.specs.Root as Root;
-ghost use Rattle.numbers.specs.code.RootSteps.{Squared, Rounds, Lifted, unitsOf, RootOf};
-
-// A pattern's exponent counts in steps of 2^52.
-const TWO_52: u64 = 0x10_0000_0000_0000;
+ghost use Rattle.numbers.specs.code.Units.{unitsOf};
+ghost use Rattle.numbers.specs.code.RootSteps.{Squared, Rounds, Lifted, RootOf};
 
 const TWO_53: u64 = 0x20_0000_0000_0000;
 
-// The bits of 0.5, minus zero and infinity.
+// The bits of 0.5.
 const HALF_BITS: u64 = 0x3fe0_0000_0000_0000;
-
-const MINUS_ZERO_BITS: u64 = 0x8000_0000_0000_0000;
-
-const INFINITY_BITS: u64 = 0x7ff0_0000_0000_0000;
 
 // With half of a number's digits, and of its exponent's last bit: the bits of nearly half its root.
 const GUESS_BITS: u64 = 0x3fd7_6d0a_40d7_8ae2;

@@ -1,12 +1,19 @@
-// A finite double as a whole number times a power of two.
+// The bits of a finite double as a whole number times a power of two, and the remainder of two such numbers. A unit is 2^-1074, the smallest double.
 ghost use mathlib.Core.Path.{_≡_};
-ghost use Prim.Native.Nat.{_<_, _^_};
-ghost use Rattle.numbers.specs.code.RemainderSteps.{Parted};
+ghost use Prim.Native.Nat.{_*_, _%_, _<_, _≤_, _^_};
+ghost use Rattle.numbers.specs.code.Units.{Parted, UnitBits};
 
 // A pattern's exponent counts in steps of 2^52.
-const TWO_52: u64 = 0x10_0000_0000_0000;
+pub const TWO_52: u64 = 0x10_0000_0000_0000;
 
-// m * 2^e units of 2^-1074.
+// The bits of infinity and of minus zero, which are the weight of the sign bit.
+pub const INFINITY_BITS: u64 = 0x7ff0_0000_0000_0000;
+
+pub const MINUS_ZERO_BITS: u64 = 0x8000_0000_0000_0000;
+
+pub const SIGN: u64 = MINUS_ZERO_BITS;
+
+// m * 2^e units.
 pub struct Scaled {
     pub m: u64,
     pub e: u64,
@@ -26,9 +33,35 @@ pub fn parts(b: u64) -> Scaled
     }
 }
 
+// 2^n
 pub fn power(n: u64) -> u64
     requires { ⌜ n < 64 ⌝ }
     ensures { λ r. ⌜ r ≡ 2 ^ n ⌝ }
 {
     1 << n
+}
+
+// The bits of 2^e units.
+pub fn unit_bits(e: u64) -> u64
+    requires { ⌜ e < 2046 ⌝ }
+    ensures { λ r. ⌜ UnitBits e r ⌝ }
+{
+    if e < 52 {
+        return power(e);
+    }
+    (e - 51) * TWO_52
+}
+
+// What b leaves of a * 2^k. It is below 2^53, so that eleven more digits fit behind it.
+pub fn shifted(a: u64, k: u64, b: u64) -> u64
+    requires { ⌜ (0 < b) × (b ≤ 2 ^ 53) ⌝ }
+    ensures { λ r. ⌜ r ≡ a * 2 ^ k % b ⌝ }
+{
+    let mut rest = a % b;
+    let mut left = k;
+    while left >= 11 {
+        rest = rest * 2048 % b;
+        left -= 11;
+    }
+    rest * power(left) % b
 }

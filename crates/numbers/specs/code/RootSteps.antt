@@ -1,6 +1,6 @@
 -- What the inner functions of src/root.rt promise each other. Nothing that a caller of `sqrt` relies on stands here.
 use mathlib.Core.Path.{_≡_}
-use Prim.Native.Nat.{ℕ, zero, suc, _+_, _*_, _/_, _%_, _^_, _≤_, _<_}
+use Prim.Native.Nat.{ℕ, _+_, _*_, _^_, _≤_, _<_}
 use lib.Ieee.{binary64, ofBits}
 use Rattle.numbers.specs.Root.{sqrt}
 
@@ -22,14 +22,6 @@ pub record Lifted (n top w g : ℕ) : Type 0 where
   pub high : w < 2 ^ 54
   pub under : g ≤ top
   pub over : 1 ≤ g
-
--- the value of the bits b of a positive number, in units of 2 ^ -1074
-abbrev pub unitsAt : ℕ → ℕ → ℕ
-unitsAt zero t = t
-unitsAt (suc x) t = (4503599627370496 + t) * 2 ^ x
-
-unfoldable pub unitsOf : ℕ → ℕ
-unitsOf b = unitsAt (b / 4503599627370496) (b % 4503599627370496)
 
 -- r are the bits of the root of the value of the bits b
 pub record RootOf (b r : ℕ) : Type 0 where

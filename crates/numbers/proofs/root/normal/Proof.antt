@@ -6,8 +6,8 @@ use native.Mathlib.Nat.{pow-suc, mul-one}
 use native.Mathlib.Omega.{arith}
 use lib.Pow.{pow-add}
 use borrow.Author.Needs.{needs}
-use Rattle.numbers.specs.code.RootSteps.{unitsOf, unitsAt}
 use Rattle.numbers.proofs.Isqrt.{four, below-or-not}
+use Rattle.numbers.proofs.Values.{normal}
 use Rattle.numbers.proofs.root.normal.Statement.{statement}
 use Rattle.numbers.proofs.root.normal.Tie as tie
 
@@ -36,12 +36,6 @@ even-field m q h p =
     let b' : 2 ^ k ≡ 2 ^ (k - 1) * 2 = ap (λ (x : ℕ). 2 ^ x) a' ∙ pow-suc 2 (k - 1) in
     let d : 4 ^ (510 + k) ≡ 4 ^ 510 * (2 ^ k * 2 ^ k) = pow-add 4 510 k ∙ ap (λ (x : ℕ). 4 ^ 510 * x) (four k) in
     rw (b, d, b') (shuffle' m (4 ^ 510) (2 ^ (k - 1)))
-
-above : (b : ℕ) → 0 < b / 4503599627370496 → unitsOf b ≡ (4503599627370496 + b % 4503599627370496) * 2 ^ (b / 4503599627370496 - 1)
-unfolding unitsOf
-above b h =
-    let e : b / 4503599627370496 ≡ suc (b / 4503599627370496 - 1) = omega arith in
-    ap (λ (q : ℕ). unitsAt q (b % 4503599627370496)) e
 
 -- the significand, doubled where the field is even
 record Doubled (m q w : ℕ) : Type 0 where
@@ -97,7 +91,7 @@ returns c =
     let p : 0 < q = omega arith in
     let d = doubled (4503599627370496 + b % 4503599627370496) q p in
     record {
-      same = d .same ∙ ap (λ (x : ℕ). x * 2 ^ 1022) (sym (above b p));
+      same = d .same ∙ ap (λ (x : ℕ). x * 2 ^ 1022) (sym (normal b (omega arith)));
       low = omega (arith, d .low);
       high = omega (arith, d .high);
       under = omega arith;

@@ -2,17 +2,16 @@
 use mathlib.Core.Path.{_≡_, refl, sym, ap, _∙_, subst}
 use mathlib.Core.Bool.{Bool, true, false, cond, true≢false}
 use Prim.Native.Nat.{ℕ, zero, suc, _+_, _*_, _/_, _%_, _^_, _<_, _≤_}
-use native.Mathlib.Nat.{zero-mul, mul-pos}
+use native.Mathlib.Nat.{mul-pos}
 use native.Mathlib.Omega.{arith}
 use lib.Dec.{T, leb, eqb, le→leb}
 use lib.Pow.{pow-pos}
-use lib.Ieee.{Float, nan, inf, fin, binary64, ofBits, toBits, fits, up, down, odd, ofFields}
+use lib.Ieee.{Float, nan, inf, fin, binary64, ofBits, toBits, fits, odd, ofFields}
 use lib.Ieee.Exact.{HasValue, odd-sign}
-use lib.Ieee.Fits.{down-pos}
 use lib.Ieee.Bits.{ofBits-toBits, toBits-lt, is-true}
 use lib.Ieee.Compare.{differs-from-itself}
 use Rattle.numbers.specs.Root.{sqrt}
-use Rattle.numbers.proofs.Rounded.{no-zero, ofBits-is}
+use Rattle.numbers.proofs.Values.{no-digits, ofBits-is}
 use Rattle.numbers.proofs.Constants.{zero-by-zero}
 use Rattle.numbers.proofs.SignLaws.{bits-of-number}
 use Rattle.numbers.proofs.NoNan.{no-nan, no-nan-bits}
@@ -49,7 +48,7 @@ neg-val : (x : Float) (n c : ℕ) → 0 < n → HasValue x true n c → sqrt x �
 unfolding sqrt
 neg-val nan n c p h = absurd h
 neg-val (inf s) n c p h = absurd h
-neg-val (fin true zero e) n c p h = absurd (no-zero n (down e) p (down-pos e) (sym (ap (λ (x : ℕ). x * c) (zero-mul (up e)) ∙ zero-mul c) ∙ h .1))
+neg-val (fin true zero e) n c p h = absurd (no-digits zero e n c p (h .1) refl)
 neg-val (fin true (suc m) e) n c p h = refl
 neg-val (fin false m e) n c p h = absurd (true≢false (sym (h .0)))
 

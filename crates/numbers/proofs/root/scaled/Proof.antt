@@ -1,19 +1,12 @@
 -- `numbers::root::scaled` meets its contract. Assumes nothing.
 use mathlib.Core.Path.{_≡_, sym, ap, _∙_}
-use Prim.Native.Nat.{ℕ, _*_, _/_, _%_, _^_, _≤_, _<_}
+use Prim.Native.Nat.{ℕ, _*_, _^_, _≤_}
 use native.Mathlib.Omega.{arith}
 use borrow.Author.Needs.{needs}
-use Rattle.numbers.specs.code.RootSteps.{Lifted, unitsOf, unitsAt}
+use Rattle.numbers.specs.code.RootSteps.{Lifted}
+use Rattle.numbers.proofs.Values.{subnormal}
 use Rattle.numbers.proofs.root.scaled.Statement.{statement}
 use Rattle.numbers.proofs.root.scaled.Tie as tie
-
--- a subnormal number is its bits
-subnormal : (b : ℕ) → b < 4503599627370496 → unitsOf b ≡ b
-unfolding unitsOf
-subnormal b h =
-    let q : b / 4503599627370496 ≡ 0 = omega arith in
-    let t : b % 4503599627370496 ≡ b = omega arith in
-    λ i. unitsAt (q i) (t i)
 
 top : {n n' t w g : ℕ} → n ≡ n' → t ≤ 1534 → Lifted n t w g → Lifted n' 1534 w g
 top e h l = record { same = l .same ∙ e; low = l .low; high = l .high; under = omega (arith, l .under); over = l .over }

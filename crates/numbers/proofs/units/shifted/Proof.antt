@@ -1,4 +1,4 @@
--- `numbers::remainder::shifted` meets its contract: what is left, times 2 ^ left, is a * 2 ^ k modulo b. Assumes nothing.
+-- `numbers::units::shifted` meets its contract: what is left, times 2 ^ left, is a * 2 ^ k modulo b. Assumes nothing.
 use mathlib.Core.Path.{_≡_, sym, ap, _∙_}
 use Prim.Native.Nat.{ℕ, _+_, _-_, _*_, _%_, _^_, _≤_, _<_}
 use native.Mathlib.Nat.{mod-lt, mul-assoc, mul-le-mul}
@@ -6,8 +6,8 @@ use native.Mathlib.Omega.{arith}
 use borrow.Author.Needs.{needs}
 use lib.Pow.{pow-add, pow-mono}
 use Rattle.numbers.proofs.Modulo.{mod-first}
-use Rattle.numbers.proofs.remainder.shifted.Statement.{statement}
-use Rattle.numbers.proofs.remainder.shifted.Tie as tie
+use Rattle.numbers.proofs.units.shifted.Statement.{statement}
+use Rattle.numbers.proofs.units.shifted.Tie as tie
 
 record Inv (a k b rest left : ℕ) : Type 0 where
   same : rest * 2 ^ left % b ≡ a * 2 ^ k % b

@@ -1,4 +1,4 @@
--- `numbers::remainder::remainder` meets its contract. Assumes nothing.
+-- `numbers::float::rem` meets its contract. Assumes nothing.
 use mathlib.Core.Path.{sym, ap, _∙_, subst}
 use Prim.Native.Nat.{ℕ, _<_}
 use native.Mathlib.Omega.{arith}
@@ -10,8 +10,8 @@ use lib.Ieee.{binary64, fits, mul, ofInt}
 use Rattle.numbers.proofs.Constants.{zero-by-zero}
 use Rattle.numbers.proofs.Quotient.{exact}
 use Rattle.numbers.proofs.RemLaws.{not-finite, by-nan, by-zero, smaller, larger}
-use Rattle.numbers.proofs.remainder.remainder.Statement.{statement}
-use Rattle.numbers.proofs.remainder.remainder.Tie as tie
+use Rattle.numbers.proofs.float.rem.Statement.{statement}
+use Rattle.numbers.proofs.float.rem.Tie as tie
 
 module _ (c : tie.Start) where
   held : T (fits binary64 (c .args .x))
@@ -75,15 +75,19 @@ double-requires c κs = search needs
 
 returns-5 : tie.Need-returns-5
 returns-5 c =
-    let x = c .before .before .before .before .before .before .before .before .before .before .before .before .before .before .args .x in
-    let y = c .before .before .before .before .before .before .before .before .before .before .before .before .before .before .args .y in
-    let b = c .before .before .before .before .before .before .before .before .before .before .before .before .before .bits .ensures in
-    let d = c .before .before .before .before .before .before .before .before .before .before .before .before .bits2 .ensures in
-    ap (mul binary64 (ofInt binary64 (pos (c .before .before .before .shifted .result)))) (rw b at (c .double .ensures))
-    ∙ larger x y _ _ _ _ (c .before .before .before .shifted .result) _ (held (c .before .before .before .before .before .before .before .before .before .before .before .before .before .before)) (held-y (c .before .before .before .before .before .before .before .before .before .before .before .before .before .before)) (rw b at (c .before .before .before .before .before .before .before .before .before .before .before .if1 .left)) (rw d at (c .before .before .before .before .before .before .before .before .before .if3 .left)) (rw (b, d) at (c .before .before .before .before .before .before .before .before .if4 .left))
-    (rw b at (c .before .before .before .before .before .before .before .parts .ensures)) (rw d at (c .before .before .before .before .before .before .parts2 .ensures)) (c .before .before .before .shifted .ensures) (c .before .unit-bits .ensures)
+    let calls = c .before .before .before in
+    let tests = calls .before .before .before .before .before in
+    let read = tests .before .before .before .before in
+    let start = read .before .before in
+    let rest = calls .shifted .result in
+    let b = read .before .bits .ensures in
+    let d = read .bits2 .ensures in
+    ap (mul binary64 (ofInt binary64 (pos rest))) (rw b at (c .double .ensures))
+    ∙ larger (start .args .x) (start .args .y) _ _ _ _ rest _ (held start) (held-y start)
+    (rw b at (tests .before .before .before .if1 .left)) (rw d at (tests .before .if3 .left)) (rw (b, d) at (tests .if4 .left))
+    (rw b at (calls .before .before .before .before .parts .ensures)) (rw d at (calls .before .before .before .parts2 .ensures)) (calls .shifted .ensures) (c .before .unit-bits .ensures)
 
-pub remainder-spec : {M : Type 1} → statement M
-remainder-spec =
+pub rem-spec : {M : Type 1} → statement M
+rem-spec =
     tie.close
     (tie.spec bits-requires bits-requires-2 returns returns-2 returns-3 returns-4 parts-requires parts-requires-2 sub-shifted shifted-requires int-to-float-result sub-double unit-bits-requires add-double double-requires returns-5)
