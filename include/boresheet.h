@@ -3,6 +3,7 @@
  * Both functions answer the number of the refusal, 0 for none, and set *line on every return: the line refused,
  * counted from 1; 0 where no line is named (none refused, BORESHEET_SIZE, BORESHEET_LENT).
  * They keep nothing between calls, allocate nothing, and write nothing but what is said here.
+ * They call memcpy and memset and no other function: no mathematical library is linked.
  *
  * What the caller owes: each pointer is good for the length beside it, also where that length is 0 (no null pointer);
  * line and written point to their numbers; nothing that is written overlaps anything else that is passed.
