@@ -15,9 +15,12 @@ written-fits : (s : List ℕ) (rs : List Float) (out : List ℕ) → runAnswer s
 unfolding runAnswer outAfter
 written-fits s rs out = go (verdict (lentRun rs out) s)
   where
+    holds : (t : List ℕ) → length t ≤ length (laid t out)
+    holds t = omega (arith, length-append t (drop (length t) out))
+
     ran : (m : Ran) → ranAnswer m .written ≤ length (laid (ranText m) out)
-    ran (done fs t) = omega (arith, length-append (t .text) (drop (length (t .text)) out))
-    ran (stopped fs r i t) = omega (arith, length-append (t .text) (drop (length (t .text)) out))
+    ran (done fs t) = holds (ranText (done fs t))
+    ran (stopped fs r i t) = holds (ranText (stopped fs r i t))
     ran (stuck fs i t) = omega arith
 
     go : (v : Verdict) → runOf v rs .written ≤ length (laid (textOf v rs) out)
