@@ -1,11 +1,12 @@
-"""The sheets of the program `tried`, and what it must print for them.
+"""The tried sheets of the program `test_sheets`, and what it must print for them.
 
     tried.py FOLDER    writes FOLDER/stdin and FOLDER/stdout
 
 Sheets and answers are written here from document 01: first its "Sheets to try", in its order, then sheets on its other
 statements. Nothing is taken from the program's output, and nothing of this repository's Rattle is used. A sheet of which
 01 says only that it passes shows nothing but numbers that stand in it or among its readings. `compare/tried-run` makes
-both files anew and compares them with the stored ones; the gate runs the program and compares what it prints.
+both files anew and compares them with the first part of the stored ones; the gate runs the program and compares what it
+prints.
 """
 
 import struct
@@ -19,8 +20,6 @@ POLE = "(ellipsoid 6400000 128)"
 WGS84 = "(ellipsoid wgs84)"
 NAN = 0x7FF8000000000000
 PI_HALF = 1.5707963267948966
-# What is no case ends the program's run.
-NO_CASE = "4002 28\n"
 
 
 def bits(x):
@@ -247,8 +246,6 @@ def main(folder):
                 given.write(sheet)
                 expected.write(said)
                 count += 1
-        given.write(NO_CASE)
-        expected.write("?\n")
     print("%d sheets" % count)
 
 

@@ -1,4 +1,4 @@
-"""Sheets for the program `forms`, and what it must print for them.
+"""Sheets for the program `test_forms`, and what it must print for them.
 
     make.py stored FOLDER              the sheets of the gate: FOLDER/stdin and FOLDER/stdout
     make.py random COUNT SEED FOLDER   COUNT sheets at random, likewise

@@ -1,0 +1,57 @@
+// Reads sheets with their readings from standard input, and prints what the check and the run of `sheets` answer for each.
+// The stored input has document 01's sheets to try, and more, whose answers are written down from the document (the tried sheets); behind them 1,500 sheets of all sorts, made at random, whose answers are those of the Rust run beside (the sampled sheets); and at the end a line that is no sheet.
+// A sheet is a line of the input: how many bytes it has, as four hexadecimal digits, a space, the bits of the sixteen readings, sixteen digits and a space each, and the sheet's bytes, two digits each.
+// Sizes are 0 to 16,385, one beyond the largest sheet. What is not of this form is answered by `?`, and nothing behind it is read.
+mod cases;
+mod print;
+mod report;
+
+use libc::STDIN_FILENO;
+
+// Reads the bytes of the sheet that a head announces, and prints the answers for it: whether head and bytes are of the form.
+fn answered(head: &[u8; 277]) -> bool {
+    let mut readings = [0.0; 16];
+    let read = cases::readings(head, &mut readings);
+    if !read {
+        return false;
+    }
+    let count = cases::size(head);
+    if 16385 < count {
+        return false;
+    }
+    let mut digits = io::large_buffer();
+    let wanted = 2 * count + 1;
+    io::read_full(STDIN_FILENO, &mut digits[..wanted]);
+    let mut sheet = [0u8; 16385];
+    let decoded = cases::decode(&digits, &mut sheet, count);
+    if !decoded {
+        return false;
+    }
+    report::sheet(&sheet[..count], &readings);
+    true
+}
+
+// Reads one sheet and prints the answers for it: whether to go on.
+fn next() -> bool {
+    let mut head = [0u8; 277];
+    let got = io::read_full(STDIN_FILENO, &mut head);
+    if got == 0 {
+        return false;
+    }
+    let fine = answered(&head);
+    if !fine {
+        print::put(b"?\n");
+    }
+    fine
+}
+
+// Nothing says that the input ends, so the sheets are counted down, from a number that no run uses up.
+fn main() {
+    let mut left = u64::MAX;
+    while 0 < left {
+        if !next() {
+            return;
+        }
+        left -= 1;
+    }
+}
