@@ -5,7 +5,8 @@ mod root_model;
 mod timing;
 
 use random::{Random, power_of_two, step};
-use reference::Standins;
+use reference::{Angle, Standins};
+use std::f64::consts::PI;
 use std::hint::black_box;
 use timing::best;
 
@@ -15,6 +16,8 @@ extern "C" {
     fn numbers_cos(x: f64) -> f64;
     fn numbers_atan2(y: f64, x: f64) -> f64;
     fn numbers_asin(x: f64) -> f64;
+    fn numbers_rem(x: f64, y: f64) -> f64;
+    fn numbers_normalised_to(x: f64, max: f64) -> f64;
 }
 
 #[inline(never)]
@@ -42,6 +45,17 @@ extern "C" fn rust_asin(x: f64) -> f64 {
     x.std_asin()
 }
 
+// By the C library's fmod.
+#[inline(never)]
+extern "C" fn rust_rem(x: f64, y: f64) -> f64 {
+    x % y
+}
+
+#[inline(never)]
+extern "C" fn rust_normalised_to(x: f64, max: f64) -> f64 {
+    Angle { radians: x }.normalised_to(Angle { radians: max }).radians
+}
+
 type One = unsafe extern "C" fn(f64) -> f64;
 type Two = unsafe extern "C" fn(f64, f64) -> f64;
 
@@ -51,7 +65,7 @@ const COUNTED: u64 = 10_000_000;
 
 fn row(name: &str, inputs: &str, rust: impl Fn(usize) -> f64, rattle: impl Fn(usize) -> f64) {
     let (rust, rattle) = best(name, INPUTS, ROUNDS, |i| rust(i).to_bits(), |i| rattle(i).to_bits());
-    println!("{name:<6} {inputs:<44} {rust:>8.2} {rattle:>8.2} {:>7.2}", rattle / rust);
+    println!("{name:<13} {inputs:<44} {rust:>8.2} {rattle:>8.2} {:>7.2}", rattle / rust);
 }
 
 fn one(name: &str, inputs: &str, rust: One, rattle: One, x: impl FnMut(usize) -> f64) {
@@ -70,8 +84,28 @@ fn finite_above_zero(r: &mut Random) -> f64 {
     f64::from_bits(1 + r.below(0x7fef_ffff_ffff_ffff))
 }
 
+// Remainders and normalised angles, by how large the quotient is.
+fn remainders(r: &mut Random) {
+    let turn = 2.0 * PI;
+    let full = |size: f64, r: &mut Random| (r.between(-size, size), turn);
+    two("rem", "x below y", rust_rem, numbers_rem, |_| (r.between(-1.0, 1.0), r.between(1.0, 2.0)));
+    two("rem", "quotients of 1 to 4", rust_rem, numbers_rem, |_| {
+        let y = r.between(1.0, 2.0);
+        (y * r.between(1.0, 4.0), y)
+    });
+    two("rem", "-1000 to 1000 by 2 PI", rust_rem, numbers_rem, |_| full(1e3, r));
+    two("rem", "-1e8 to 1e8 by 2 PI", rust_rem, numbers_rem, |_| full(1e8, r));
+    two("rem", "-1e16 to 1e16 by 2 PI", rust_rem, numbers_rem, |_| full(1e16, r));
+    two("rem", "random exponents", rust_rem, numbers_rem, |_| (finite_above_zero(r), finite_above_zero(r)));
+    two("rem", "about 1e300 by about 1e-300", rust_rem, numbers_rem, |_| (r.between(1e300, 2e300), r.between(1e-300, 2e-300)));
+    two("rem", "the largest by the least", rust_rem, numbers_rem, |_| (f64::MAX, f64::from_bits(1)));
+    two("normalised_to", "-2 PI to 2 PI, to 2 PI", rust_normalised_to, numbers_normalised_to, |_| full(turn, r));
+    two("normalised_to", "-1000 to 1000, to 2 PI", rust_normalised_to, numbers_normalised_to, |_| full(1e3, r));
+    two("normalised_to", "-1e16 to 1e16, to 2 PI", rust_normalised_to, numbers_normalised_to, |_| full(1e16, r));
+}
+
 fn times(r: &mut Random) {
-    println!("{:<6} {:<44} {:>8} {:>8} {:>7}", "", "inputs", "Rust ns", "Rattle ns", "ratio");
+    println!("{:<13} {:<44} {:>8} {:>8} {:>7}", "", "inputs", "Rust ns", "Rattle ns", "ratio");
     for (name, rust, rattle) in [("sin", rust_sin as One, numbers_sin as One), ("cos", rust_cos, numbers_cos)] {
         one(name, "angles in -10 to 10", rust, rattle, |_| r.between(-10.0, 10.0));
         one(name, "angles in -64 to 64", rust, rattle, |_| r.between(-64.0, 64.0));
@@ -147,6 +181,7 @@ fn fall_backs(r: &mut Random) -> bool {
 fn main() {
     let mut r = Random(20261115);
     times(&mut r);
+    remainders(&mut r);
     println!();
     std::process::exit(if fall_backs(&mut r) { 0 } else { 1 });
 }

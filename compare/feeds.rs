@@ -1,6 +1,7 @@
 // Inputs for an operation, by what it takes. Each call of `fill` is the next turn; the classes come round in turn, so that a few dozen turns meet them all.
 use crate::earth::Part;
 use crate::random::{CLASSES, Random, number, power_of_two};
+use crate::remainders;
 use std::f64::consts::PI;
 
 #[derive(Clone, Copy, PartialEq)]
@@ -17,6 +18,8 @@ pub enum Feed {
     Wrap,
     // a number to be brought to 2 PI
     WrapFull,
+    // a dividend and a divisor
+    Remainder,
     // a sign, digits and tens, whole numbers
     Decimal,
     // vectors, often related, and at the end perhaps one number
@@ -53,6 +56,7 @@ impl Feeder {
                 let x = self.wrapped(2.0 * PI);
                 put(inputs, &[x])
             }
+            Feed::Remainder => put(inputs, &self.remainder()),
             Feed::Decimal => inputs.copy_from_slice(&self.decimal()),
             Feed::Vectors => self.vectors(inputs),
             Feed::Parts(parts) => self.parts(parts, inputs),
@@ -105,6 +109,14 @@ impl Feeder {
             _ => self.any(),
         };
         [self.wrapped(max), max]
+    }
+
+    // Of each sort in turn, then a number and a maximum.
+    fn remainder(&mut self) -> [f64; 2] {
+        match self.turn % (remainders::SORTS + 1) {
+            remainders::SORTS => self.wrap(),
+            sort => remainders::pair(&mut self.random, sort),
+        }
     }
 
     // A number that is brought to the range of `max` in some telling way.

@@ -5,6 +5,7 @@ mod earth;
 mod feeds;
 mod frame_operations;
 mod random;
+mod remainders;
 mod sample;
 mod words;
 

@@ -5,6 +5,7 @@ mod earth;
 mod feeds;
 mod operations;
 mod random;
+mod remainders;
 mod sample;
 mod words;
 

@@ -1,5 +1,5 @@
 // The operations by number, as the library's numbers_apply takes them: what each takes and gives, and the Rust's answer.
-use crate::feeds::Feed::{Decimal, Nothing, Number, Pair, Root, Turn, Unit, Vectors, Wrap, WrapFull};
+use crate::feeds::Feed::{Decimal, Nothing, Number, Pair, Remainder, Root, Turn, Unit, Vectors, Wrap, WrapFull};
 use crate::words::{Operation, Outputs, op};
 use reference::numbers::{eq, eq_zero, gte, lte};
 use reference::{Angle, Length, Mat33, Standins, Vec3};
@@ -31,7 +31,7 @@ pub static OPERATIONS: [Operation; 62] = [
     op("to_degrees", 1, 1, Turn, |i, o| o.n(i.n(0).std_to_degrees())),
     op("abs", 1, 1, Number, |i, o| o.n(i.n(0).abs())),
     op("clamp_unit", 1, 1, Unit, |i, o| o.n(i.n(0).clamp(-1.0, 1.0))),
-    op("rem", 2, 1, Wrap, |i, o| o.n(i.n(0) % i.n(1))),
+    op("rem", 2, 1, Remainder, |i, o| o.n(i.n(0) % i.n(1))),
     op("decimal", 3, 1, Decimal, |i, o| o.n(decimal(i.0[0] == 1, i.0[1], i.0[2]))),
     op("eq_zero", 1, 1, Number, |i, o| o.b(eq_zero(i.n(0)))),
     op("eq", 2, 1, Pair, |i, o| o.b(eq(i.n(0), i.n(1)))),
