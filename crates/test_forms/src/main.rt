@@ -1,12 +1,14 @@
 // Reads sheets from standard input, and prints what the reader of `sheets` finds in each.
 // A sheet is a line of the input: how many bytes it has, as four hexadecimal digits, a space, and the bytes, two digits each.
 // Sizes are 1 to 16,384: any other is refusal 1, and no matter of the reader. What is not of this form is answered by `?`, and nothing behind it is read.
-mod cases;
 mod report;
 mod text;
 mod tree;
 
 use libc::STDIN_FILENO;
+use test_cases::input::read_bytes;
+use test_cases::input::size;
+use test_cases::print::put;
 
 // Reads one sheet and prints what is found in it: whether to go on.
 fn next() -> bool {
@@ -15,14 +17,10 @@ fn next() -> bool {
     if got == 0 {
         return false;
     }
-    let count = cases::size(&head);
-    let mut digits = io::large_buffer();
-    let wanted = 2 * count + 1;
-    io::read_full(STDIN_FILENO, &mut digits[..wanted]);
     let mut sheet = [0u8; 16384];
-    let n = cases::decode(&digits, &mut sheet, count);
+    let n = read_bytes(&mut sheet, size(&head)).count;
     if n == 0 {
-        text::put(b"?\n");
+        put(b"?\n");
         return false;
     }
     report::sheet(&sheet[..n]);

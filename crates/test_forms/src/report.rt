@@ -1,6 +1,4 @@
 // What is found in a sheet: whether it is of the grammar, and then each line's place and parts.
-use crate::text::decimal;
-use crate::text::put;
 use crate::text::word;
 use crate::tree::number;
 use crate::tree::tree;
@@ -11,6 +9,8 @@ use sheets::head::head;
 use sheets::lines::LineForm;
 use sheets::lines::LineRead;
 use sheets::lines::line;
+use test_cases::print::decimal;
+use test_cases::print::put;
 
 // `bad` and the first bad line, or `fine`, how many lines there are, and the lines.
 pub fn sheet(s: &[u8]) {

@@ -1,13 +1,6 @@
-// How bytes, words and doubles are printed.
+// How words and doubles are printed.
 use libc::STDOUT_FILENO;
-
-pub fn put(text: &[u8]) {
-    io::write_all(STDOUT_FILENO, text);
-}
-
-pub fn decimal(n: usize) {
-    io::print_decimal(STDOUT_FILENO, n as u64);
-}
+use test_cases::print::put;
 
 // The sixteen hexadecimal digits of a double's bits. No number of a sheet is NaN.
 pub fn double(x: f64) {

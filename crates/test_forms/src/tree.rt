@@ -1,6 +1,5 @@
 // An expression, printed as it is nested: each word from its code, each number as its double's bits.
 use crate::text::double;
-use crate::text::put;
 use crate::text::word;
 use sheets::bytes::WordRead;
 use sheets::bytes::byte;
@@ -8,6 +7,7 @@ use sheets::expr::Read;
 use sheets::expr::expr;
 use sheets::lines::opening;
 use sheets::num::DoubleRead;
+use test_cases::print::put;
 
 // A word or a number.
 fn leaf(s: &[u8], at: usize) {

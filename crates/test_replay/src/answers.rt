@@ -2,21 +2,10 @@
 use crate::tables::apply;
 use crate::tables::inputs_of;
 use crate::tables::outputs_of;
-ghost use Prim.Native.Nat.{_+_, _*_, _≤_};
+use test_cases::input::words;
+ghost use Prim.Native.Nat.{_+_, _≤_};
 ghost use lib.ListN.{length};
 ghost use Rattle.io.specs.Counts.{Counts};
-
-// The inputs of a line. They are all there where ok.
-struct Given {
-    pub ok: bool,
-    pub words: [u64; 32],
-}
-
-// What sixteen places of a line hold.
-enum Read {
-    Word(u64),
-    Not,
-}
 
 // A decimal digit, or 10 where it is none.
 fn decimal_digit(b: u8) -> u64
@@ -25,17 +14,6 @@ fn decimal_digit(b: u8) -> u64
     match b {
         b'0'..=b'9' => (b - b'0') as u64,
         _ => 10,
-    }
-}
-
-// A hexadecimal digit, in lower case, or 16 where it is none.
-fn hex_digit(b: u8) -> u64
-    ensures { λ r. ⌜ r ≤ 16 ⌝ }
-{
-    match b {
-        b'0'..=b'9' => (b - b'0') as u64,
-        b'a'..=b'f' => (b - b'a') as u64 + 10,
-        _ => 16,
     }
 }
 
@@ -57,49 +35,6 @@ fn operation(s: &[u8]) -> u64 {
         return 1000;
     }
     hundreds * 100 + tens * 10 + ones
-}
-
-// The word of the sixteen digits at a place.
-fn word(s: &[u8], at: usize) -> Read
-    requires { ⌜ at + 16 ≤ length (now s) ⌝ }
-{
-    let mut value: u64 = 0;
-    let mut left: usize = 16;
-    let mut i = at;
-    while 0 < left {
-        let d = hex_digit(s[i]);
-        if d == 16 {
-            return Read::Not;
-        }
-        value = value * 16 + d;
-        i += 1;
-        left -= 1;
-    }
-    Read::Word(value)
-}
-
-// The words of a line that is as long as its operation and `count` inputs.
-fn inputs(s: &[u8], count: usize) -> Given
-    requires { ⌜ (3 + 17 * count ≤ length (now s)) × (count ≤ 32) ⌝ }
-{
-    let mut words = [0u64; 32];
-    let mut i: usize = 0;
-    while i < count {
-        let at = 3 + 17 * i;
-        if s[at] != b' ' {
-            return Given { ok: false, words };
-        }
-        match word(s, at + 1) {
-            Read::Word(x) => {
-                words[i] = x;
-            }
-            Read::Not => {
-                return Given { ok: false, words };
-            }
-        }
-        i += 1;
-    }
-    Given { ok: true, words }
 }
 
 // The last hexadecimal digit of a word.
@@ -165,10 +100,10 @@ pub fn line(s: &[u8], out: &mut [u8]) -> usize
     if s.len() != 3 + 17 * count {
         return refusal(out);
     }
-    let given = inputs(s, count);
+    let given = words(s, 3, count);
     if !given.ok {
         return refusal(out);
     }
-    let words = given.words;
-    answer(s, apply(op, words), outputs, out)
+    let inputs = given.words;
+    answer(s, apply(op, inputs), outputs, out)
 }

@@ -4,7 +4,7 @@ mod answers;
 mod tables;
 
 use libc::STDIN_FILENO;
-use libc::STDOUT_FILENO;
+use test_cases::print::put;
 ghost use Prim.Native.Nat.{_≤_};
 ghost use lib.ListN.{length};
 
@@ -12,7 +12,7 @@ ghost use lib.ListN.{length};
 fn respond(s: &[u8]) {
     let mut out = [0u8; 412];
     let n = answers::line(s, &mut out);
-    io::write_all(STDOUT_FILENO, &out[..n]);
+    put(&out[..n]);
 }
 
 // Answers each line that ends in the chunk. `held` has the n bytes of the line so far. Of a longer line it keeps as many as it can hold: no line of the form has so many.
@@ -79,6 +79,6 @@ fn main() {
     let mut held = [0u8; 548];
     let n = all(&mut held);
     if n > 0 {
-        io::write_all(STDOUT_FILENO, b"?\n");
+        put(b"?\n");
     }
 }

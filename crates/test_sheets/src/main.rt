@@ -3,10 +3,12 @@
 // A sheet is a line of the input: how many bytes it has, as four hexadecimal digits, a space, the bits of the sixteen readings, sixteen digits and a space each, and the sheet's bytes, two digits each.
 // Sizes are 0 to 16,385, one beyond the largest sheet. What is not of this form is answered by `?`, and nothing behind it is read.
 mod cases;
-mod print;
 mod report;
 
 use libc::STDIN_FILENO;
+use test_cases::input::read_bytes;
+use test_cases::input::size;
+use test_cases::print::put;
 
 // Reads the bytes of the sheet that a head announces, and prints the answers for it: whether head and bytes are of the form.
 fn answered(head: &[u8; 277]) -> bool {
@@ -15,18 +17,12 @@ fn answered(head: &[u8; 277]) -> bool {
     if !read {
         return false;
     }
-    let count = cases::size(head);
-    if 16385 < count {
-        return false;
-    }
-    let mut digits = io::large_buffer();
-    let wanted = 2 * count + 1;
-    io::read_full(STDIN_FILENO, &mut digits[..wanted]);
     let mut sheet = [0u8; 16385];
-    let decoded = cases::decode(&digits, &mut sheet, count);
-    if !decoded {
+    let decoded = read_bytes(&mut sheet, size(head));
+    if !decoded.ok {
         return false;
     }
+    let count = decoded.count;
     report::sheet(&sheet[..count], &readings);
     true
 }
@@ -40,7 +36,7 @@ fn next() -> bool {
     }
     let fine = answered(&head);
     if !fine {
-        print::put(b"?\n");
+        put(b"?\n");
     }
     fine
 }

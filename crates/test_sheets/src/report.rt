@@ -1,12 +1,16 @@
 // What the check and the run answer for a sheet, and what they leave in their buffers.
 // Both buffers are lent full of 254, which is no kind code and no byte of a text: what still holds it was not written.
-use crate::print::decimal;
-use crate::print::put;
-use crate::print::small;
 use sheets::check::check;
 use sheets::run::run;
+use test_cases::print::decimal;
+use test_cases::print::put;
 ghost use lib.ListN.{length};
 ghost use Rattle.io.specs.Counts.{Counts};
+
+// A number of one byte.
+fn small(n: u8) {
+    decimal(n as usize);
+}
 
 // How many bytes were written before the first that was not.
 fn written(s: &[u8]) -> usize

@@ -10,7 +10,7 @@ use Rattle.test_forms.proofs.tree.+arguments+tree.Lts-arguments as argu
 use Rattle.test_forms.proofs.tree.tree.Reads as tree
 use Rattle.test_forms.proofs.tree.tree.Kinds as tree-kinds
 use Rattle.test_forms.proofs.tree.+arguments+tree.Lts-tree as tree-lts
-use Rattle.test_forms.proofs.text.put.Reads as put-reads
+use Rattle.test_cases.proofs.print.put.Reads as put-reads
 use Rattle.test_forms.proofs.text.word.Reads as word-reads
 use Rattle.test_forms.proofs.tree.after.Reads as after-reads
 use Rattle.test_forms.proofs.tree.leaf.Reads as leaf-reads

@@ -3,7 +3,7 @@ use mathlib.Core.Path.{_≡_, refl, _∙_}
 use Prim.Native.Nat.{_+_, _-_, _*_, _≤_}
 use native.Mathlib.Omega.{arith}
 use lib.ListN.{length, set, length-set}
-use Rattle.test_replay.proofs.Laws.{counts}
+use Rattle.io.proofs.Counting.{counts}
 use Rattle.test_replay.proofs.answers.answer.Statement.{statement}
 use Rattle.test_replay.proofs.answers.answer.Tie as tie
 

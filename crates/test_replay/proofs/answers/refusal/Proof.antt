@@ -1,5 +1,5 @@
 -- `test_replay::answers::refusal` is safe, and answers a count within out. Assumes nothing.
-use Rattle.test_replay.proofs.Laws.{counts}
+use Rattle.io.proofs.Counting.{counts}
 use native.Mathlib.Omega.{arith}
 use Prim.Native.Nat.{_≤_}
 use lib.ListN.{length, set, length-set}

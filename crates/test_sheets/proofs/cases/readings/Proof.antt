@@ -6,22 +6,10 @@ use Rattle.test_sheets.proofs.cases.readings.Statement.{statement}
 use Rattle.test_sheets.proofs.cases.readings.Tie as tie
 
 abbrev Inv-loop : tie.InvT-loop
-Inv-loop head values₀ i₀ values i = i ≤ 16
+Inv-loop head values₀ bits i₀ values i = i ≤ 16
 
 abbrev μ-loop : tie.MeasureT-loop
-μ-loop head values₀ i₀ values i = 16 - i
-
-loop-holds : tie.Need-loop-holds Inv-loop μ-loop
-loop-holds c = omega arith
-
-mul-at : tie.Need-mul-at Inv-loop μ-loop
-mul-at c = omega arith
-
-add-at : tie.Need-add-at Inv-loop μ-loop
-add-at c = omega arith
-
-add-if1 : tie.Need-add-if1 Inv-loop μ-loop
-add-if1 c = omega arith
+μ-loop head values₀ bits i₀ values i = 16 - i
 
 element-copy-out-if1 : tie.Need-element-copy-out-if1 Inv-loop μ-loop
 element-copy-out-if1 c = omega arith
@@ -29,17 +17,20 @@ element-copy-out-if1 c = omega arith
 returns : tie.Need-returns Inv-loop μ-loop
 returns c = tt
 
-sixteen-requires : tie.Need-sixteen-requires Inv-loop μ-loop
-sixteen-requires c κs = search needs
-
-enum-known-w : tie.Need-enum-known-w Inv-loop μ-loop
-enum-known-w c = search needs
-
-enum-told : tie.Need-enum-told Inv-loop μ-loop
-enum-told c = search needs
+words-requires : tie.Need-words-requires Inv-loop μ-loop
+words-requires c κs = search needs
 
 returns-2 : tie.Need-returns-2 Inv-loop μ-loop
 returns-2 c = tt
+
+loop-holds : tie.Need-loop-holds Inv-loop μ-loop
+loop-holds c = omega arith
+
+mul-double : tie.Need-mul-double Inv-loop μ-loop
+mul-double c = omega arith
+
+array-read-double : tie.Need-array-read-double Inv-loop μ-loop
+array-read-double c = omega arith
 
 double-requires : tie.Need-double-requires Inv-loop μ-loop
 double-requires c κs = search needs
@@ -68,16 +59,13 @@ readings-spec =
     (tie.spec
     Inv-loop
     μ-loop
-    loop-holds
-    mul-at
-    add-at
-    add-if1
     element-copy-out-if1
     returns
-    sixteen-requires
-    enum-known-w
-    enum-told
+    words-requires
     returns-2
+    loop-holds
+    mul-double
+    array-read-double
     double-requires
     mul-values
     element-write-values

@@ -8,8 +8,3 @@ pub fn put(text: &[u8]) {
 pub fn decimal(n: usize) {
     io::print_decimal(STDOUT_FILENO, n as u64);
 }
-
-// A number of one byte.
-pub fn small(n: u8) {
-    decimal(n as usize);
-}

@@ -1,12 +1,12 @@
--- `test_forms::cases::decode` is safe and ends, and answers a count within `sheet`. Assumes nothing.
+-- `test_cases::input::decode` is safe and ends, and `count` is within `sheet` afterwards. Assumes nothing.
 use Prim.Native.Nat.{_-_, _≤_}
 use mathlib.Core.Path.{_≡_, refl}
 use lib.ListN.{length, length-set}
 use Rattle.io.proofs.Counting.{counts}
 use native.Mathlib.Omega.{arith}
 use borrow.Author.Needs.{needs}
-use Rattle.test_forms.proofs.cases.decode.Statement.{statement}
-use Rattle.test_forms.proofs.cases.decode.Tie as tie
+use Rattle.test_cases.proofs.input.decode.Statement.{statement}
+use Rattle.test_cases.proofs.input.decode.Tie as tie
 
 abbrev Inv-loop : tie.InvT-loop
 Inv-loop digits sheet₀ count i₀ sheet i = (i ≤ count) × (length sheet ≡ length sheet₀)
@@ -21,7 +21,7 @@ element-copy-out-if1 : tie.Need-element-copy-out-if1 Inv-loop μ-loop
 element-copy-out-if1 c = omega arith
 
 returns : tie.Need-returns Inv-loop μ-loop
-returns c = (omega arith, refl)
+returns c = counts _ _ (omega arith)
 
 loop-holds : tie.Need-loop-holds Inv-loop μ-loop
 loop-holds c = (omega arith, refl)
@@ -36,7 +36,7 @@ same-length : tie.Need-same-length Inv-loop μ-loop
 same-length c = search needs
 
 returns-2 : tie.Need-returns-2 Inv-loop μ-loop
-returns-2 c = (omega arith, refl)
+returns-2 c = counts _ _ (omega arith)
 
 cast-sheet : tie.Need-cast-sheet Inv-loop μ-loop
 cast-sheet c = omega arith
