@@ -7,7 +7,7 @@
  *
  * What the caller owes: each pointer is good for the length beside it, also where that length is 0 (no null pointer);
  * line and written point to their numbers; nothing that is written overlaps anything else that is passed.
- * A run takes less than 184 KiB of stack.
+ * A run takes less than 160 KiB of stack.
  */
 #ifndef BORESHEET_H
 #define BORESHEET_H
