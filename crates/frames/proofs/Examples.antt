@@ -145,10 +145,10 @@ elevation-down : bits (elevation (localFromMetres Ned (num 0) (num 0) (num 1)) .
 unfolding computed
 elevation-down = refl
 
--- a hair west of north is the whole circle
-bearing-whole : bits (bearing (localFromMetres Ned (num 1) (neg (decimal 1 17)) (num 0)) .0) ≡ 0x4019_21fb_5444_2d18
+-- a hair west of north is north
+bearing-hair : bits (bearing (localFromMetres Ned (num 1) (neg (decimal 1 17)) (num 0)) .0) ≡ 0
 unfolding computed
-bearing-whole = refl
+bearing-hair = refl
 
 -- azimuth 155.427°, elevation -23.161°, range 10.885 m is (-9.101, 4.162, 4.281): the example of vector.rs
 aer : vectorBits (fromAer Body (fromDegrees (decimal 155427 3)) (fromDegrees (neg (decimal 23161 3))) (metres (decimal 10885 3))) ≡ 0xc022_33e1_57bd_e014 ∷ 0x4010_a59b_b453_9d49 ∷ 0x4011_1fff_1f2b_5136 ∷ []

@@ -7,7 +7,7 @@ use Rattle.numbers.specs.Ops.{_⊕_, num, pick}
 use Rattle.numbers.specs.Arctangent.{asin, atan2}
 use Rattle.numbers.specs.Floats.{clampUnit, nearZero, remainder}
 use Rattle.numbers.specs.Lengths.{lengthDiv}
-use Rattle.numbers.specs.Angles.{angle, angleNeg, fullCircle, wrapped, normalisedTo, normalised}
+use Rattle.numbers.specs.Angles.{angle, angleNeg, fullCircle, raised, wrapped, normalisedTo, normalised}
 use Rattle.numbers.specs.Vec.{squaredNorm}
 use Rattle.numbers.specs.Mat.{transpose}
 use Rattle.numbers.specs.declared.angle.Angle.{Angle}
@@ -46,10 +46,11 @@ elevation-fits v =
     (pick-angle (isZUp (v .orientation)) r (angleNeg r) (asin-fits x) (neg-angle r (asin-fits x)))
 
 wrapped-fits : (x max : Float) → Fits x → FitAngle (wrapped x max)
-unfolding wrapped
+unfolding wrapped raised
 wrapped-fits x max p =
     let r = remainder x max in
-    pick-angle (Ieee.lt r (num 0)) (angle (r ⊕ max)) (angle r) (add-fits binary64 r max) (rem-fits binary64 x max p)
+    pick-angle (Ieee.lt r (num 0)) (angle (raised r max)) (angle r)
+    (pick-fits (Ieee.eq (r ⊕ max) max && Ieee.lt (num 0) max) (num 0) (r ⊕ max) (decimal-fits 0 0) (add-fits binary64 r max)) (rem-fits binary64 x max p)
 
 normalised-fits : (a : Angle) → FitAngle a → FitAngle (normalised a)
 unfolding normalised normalisedTo

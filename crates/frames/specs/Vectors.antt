@@ -62,7 +62,7 @@ elevation v =
     let r = angle (asin (clampUnit (lengthDiv (v .z) (slantRange v)))) in
     pick (nearZero (slantRange v .0)) (angle (num 0)) (pick (isZUp (v .orientation)) r (angleNeg r))
 
--- Clockwise seen from above, from north, from a body's nose or from a wander azimuth frame's x axis; from 0 to 2 PI, both included.
+-- Clockwise seen from above, from north, from a body's nose or from a wander azimuth frame's x axis; at least 0 and below 2 PI.
 unfoldable pub bearing : LocalVector → Angle
 bearing v = normalised (angle (pick (isZUp (v .orientation)) (atan2 (v .x .0) (v .y .0)) (atan2 (v .y .0) (v .x .0))))
 

@@ -3,9 +3,9 @@ use mathlib.Core.Path.{_≡_, refl, sym, ap, _∙_}
 use mathlib.Core.Bool.{Bool, true, false, _&&_, true≢false}
 use lib.IntN.{pos}
 use lib.Ieee.{Float, binary64, le, lt, neg}
-use Rattle.numbers.specs.Ops.{_⊕_, decimal, num, pick}
+use Rattle.numbers.specs.Ops.{decimal, num, pick}
 use Rattle.numbers.specs.Floats.{remainder}
-use Rattle.numbers.specs.Angles.{angle, wrapped, normalisedTo}
+use Rattle.numbers.specs.Angles.{angle, raised, wrapped, normalisedTo}
 use Rattle.numbers.specs.declared.angle.Angle.{Angle}
 use Rattle.numbers.proofs.FitLaws.{Fits}
 use Rattle.numbers.proofs.FloatLaws.{rem-small}
@@ -13,7 +13,7 @@ use Rattle.numbers.proofs.WholeLaw.{le-not-lt}
 
 -- moved up by max where it is below zero
 abbrev pub lift : Float → Float → Angle
-lift x max = pick (lt x (num 0)) (angle (x ⊕ max)) (angle x)
+lift x max = pick (lt x (num 0)) (angle (raised x max)) (angle x)
 
 zero-not : (x : Float) → le (num 0) x ≡ true → lt x (num 0) ≡ false
 unfolding decimal
@@ -23,7 +23,7 @@ pub within : (x max : Float) → Fits x → lt (neg max) x ≡ true → lt x max
 unfolding normalisedTo wrapped
 within x max f h k = go (le (num 0) x) (lt x max) (zero-not x) k ∙ ap (λ (r : Float). pick (le (num 0) x && lt x max) (angle x) (lift r max)) (sym (rem-small binary64 x max f h k))
   where
-    at : (b : Bool) → b ≡ false → pick b (angle (x ⊕ max)) (angle x) ≡ angle x
+    at : (b : Bool) → b ≡ false → pick b (angle (raised x max)) (angle x) ≡ angle x
     at true e = absurd (true≢false e)
     at false e = refl
 

@@ -59,7 +59,7 @@ zeros-lt : (s : Bool) (m : ℕ) (e : ℤ) (t : Bool) (n : ℕ) (d : ℤ) → m *
 unfolding lt
 zeros-lt s m e t n d p q = (λ i. below s (none (m * up e) (down d) p i) t (none (n * up d) (down e) q i)) ∙ below-zero s t
 
-zeros-le : (s : Bool) (m : ℕ) (e : ℤ) (t : Bool) (n : ℕ) (d : ℤ) → m * up e ≡ 0 → n * up d ≡ 0 → le (fin s m e) (fin t n d) ≡ true
+pub zeros-le : (s : Bool) (m : ℕ) (e : ℤ) (t : Bool) (n : ℕ) (d : ℤ) → m * up e ≡ 0 → n * up d ≡ 0 → le (fin s m e) (fin t n d) ≡ true
 unfolding le eq
 zeros-le s m e t n d p q =
     ap (λ (b : Bool). lt (fin s m e) (fin t n d) || b) ((λ i. level s (none (m * up e) (down d) p i) t (none (n * up d) (down e) q i)) ∙ level-zero s t) ∙ or-true (lt (fin s m e) (fin t n d))

@@ -73,7 +73,11 @@ minus-nothing : bits (nearest true 0 1) ≡ 0x8000_0000_0000_0000
 unfolding computed
 minus-nothing = refl
 
--- a bearing a hair west of north is the whole circle
-whole-circle : bits (normalised (angle (neg (decimal 1 17))) .0) ≡ 0x4019_21fb_5444_2d18
+-- an angle a hair below zero comes to 0 where the sum would round to 2 PI, and to the number before 2 PI where it does not
+hair-below : bits (normalised (angle (neg (decimal 1 17))) .0) ≡ 0
 unfolding computed
-whole-circle = refl
+hair-below = refl
+
+two-hairs-below : bits (normalised (angle (neg (decimal 5 16))) .0) ≡ 0x4019_21fb_5444_2d17
+unfolding computed
+two-hairs-below = refl

@@ -20,6 +20,7 @@ pub mod CeilLaw
 pub mod Range
 pub mod FitLaws
 pub mod AngleLaws
+pub mod NormalisedLaws
 pub mod VecLaws
 pub mod Examples
 pub mod Computed

@@ -15,7 +15,7 @@ use lib.Ieee.Bits.{ofBits-toBits, toBits-lt, is-true}
 use Rattle.numbers.proofs.Isqrt.{below-or-not}
 use Rattle.numbers.specs.code.Units.{unitsOf, Parted, UnitBits}
 use Rattle.numbers.proofs.Modulo.{mod-scale}
-use Rattle.numbers.proofs.Values.{signOf, value, subnormal, units-mono, units-pos, over, rem-at, mul-at}
+use Rattle.numbers.proofs.Values.{signOf, value, subnormal, units-mono, units-pos, smaller-parts, rem-at, mul-at}
 use Rattle.numbers.proofs.NoNan.{nan-bits}
 use Rattle.numbers.proofs.SignLaws.{as-fields}
 use Rattle.numbers.proofs.FloatLaws.{rem-inf, rem-fin}
@@ -89,11 +89,7 @@ finite-by-more nan y s t X Y L f p h k l = absurd h
 finite-by-more (inf u) y s t X Y L f p h k l = absurd h
 finite-by-more (fin u m e) nan s t X Y L f p h k l = absurd k
 finite-by-more (fin u m e) (inf v) s t X Y L f p h k l = absurd k
-finite-by-more (fin u m e) (fin v n d) s t X Y L f p h k l =
-    let a : m * up e * down d * L ≡ X * (down e * down d) = over (m * up e) (down d) (down e) X L (h .1) in
-    let b : n * up d * down e * L ≡ Y * (down d * down e) = over (n * up d) (down e) (down d) Y L (k .1) in
-    let g : X * (down e * down d) < Y * (down e * down d) = mul-lt-mul-of-pos-right l (mul-pos (down-pos e) (down-pos d)) in
-    rem-fin binary64 u m e v n d f (lt-of-mul-lt-mul-right L (omega arith))
+finite-by-more (fin u m e) (fin v n d) s t X Y L f p h k l = rem-fin binary64 u m e v n d f (smaller-parts (m * up e) (n * up d) (down e) (down d) X Y L (down-pos e) (down-pos d) (h .1) (k .1) l)
 
 inf-field : (s : Bool) → ofFields binary64 s 2047 0 ≡ inf s
 unfolding ofFields
@@ -134,7 +130,7 @@ module _ (b u : ℕ) (h : b < 2 ^ 64) (k : u < 9218868437227405312) where
       (value (b - b % 9223372036854775808 + u) (omega (arith, signed-size))))
 
 -- a common power of two stays
-shares : (m e n g : ℕ) → 0 < n → g ≤ e → m * 2 ^ e % (n * 2 ^ g) ≡ m * 2 ^ (e - g) % n * 2 ^ g
+pub shares : (m e n g : ℕ) → 0 < n → g ≤ e → m * 2 ^ e % (n * 2 ^ g) ≡ m * 2 ^ (e - g) % n * 2 ^ g
 shares m e n g p h =
     let i : e - g + g ≡ e = omega arith in
     let j : m * 2 ^ e ≡ m * 2 ^ (e - g) * 2 ^ g = ap (λ (z : ℕ). m * z) (ap (λ (z : ℕ). 2 ^ z) (sym i) ∙ pow-add 2 (e - g) g) ∙ sym (mul-assoc m (2 ^ (e - g)) (2 ^ g)) in

@@ -110,18 +110,32 @@ place l (negsuc k) h =
     split : (a b : ℕ) → b ≤ a → a ≡ a - b + b
     split a b g = omega arith
 
-own-value : (f : Format) (s : Bool) (m : ℕ) (e : ℤ) → T (fits f (fin s (suc m) e)) → HasValue (round f s (suc m * up e) (down e)) s (suc m * up e) (down e)
-own-value f s m e t =
+-- x is m * 2 ^ j of the format's smallest values, with an m of no more digits than the format keeps
+pub record Counted (f : Format) (x : Float) (s : Bool) (m j : ℕ) : Type 0 where
+  pub counts : HasValue x s (m * 2 ^ j) (2 ^ low f)
+  pub short : m < 2 ^ prec f
+  pub under : m * 2 ^ j < 2 ^ (low f + suc (emax f))
+
+pub counted : (f : Format) (s : Bool) (m : ℕ) (e : ℤ) → T (fits f (fin s m e)) → (j : ℕ) × Counted f (fin s m e) s m j
+counted f s zero e t =
+    let z : e ≡ pos 0 = zero-exp f s e t in
+    (0, subst (λ (x : ℤ). Counted f (fin s 0 x) s 0 0) (sym z) (record { counts = (refl, zero-mul (2 ^ low f)); short = pow-pos (prec f); under = pow-pos (low f + suc (emax f)) }))
+counted f s (suc m) e t =
     let l = low f in
     let pl = place l e (fit-deep f s m e t) in
     let j = pl .0 in
     let is : suc m * up e * 2 ^ l ≡ suc m * 2 ^ j * down e = mul-assoc (suc m) (up e) (2 ^ l) ∙ ap (λ (x : ℕ). suc m * x) (pl .1) ∙ sym (mul-assoc (suc m) (2 ^ j) (down e)) in
-    let under : suc m * 2 ^ j * down e < 2 ^ (l + suc (emax f)) * down e =
+    let below : suc m * 2 ^ j * down e < 2 ^ (l + suc (emax f)) * down e =
     subst (λ (x : ℕ). x < 2 ^ (l + suc (emax f)) * down e) is
     (subst (λ (x : ℕ). suc m * up e * 2 ^ l < x)
     (mul-right-comm (2 ^ suc (emax f)) (down e) (2 ^ l) ∙ ap (λ (x : ℕ). x * down e) (mul-comm (2 ^ suc (emax f)) (2 ^ l) ∙ sym (pow-add 2 l (suc (emax f)))))
     (mul-lt-mul-of-pos-right (fit-high f s m e t) (pow-pos l))) in
-    round-exact f s (suc m * up e) (down e) (suc m) j (down-pos e) (fit-small f s m e t) (lt-of-mul-lt-mul-right (down e) under) is
+    (j, record { counts = (refl, is); short = fit-small f s m e t; under = lt-of-mul-lt-mul-right (down e) below })
+
+own-value : (f : Format) (s : Bool) (m : ℕ) (e : ℤ) → T (fits f (fin s m e)) → HasValue (round f s (m * up e) (down e)) s (m * up e) (down e)
+own-value f s m e t =
+    let (j, c) = counted f s m e t in
+    round-exact f s (m * up e) (down e) m j (down-pos e) (c .short) (c .under) (c .counts .1)
 
 round-zero-at : (f : Format) (s : Bool) → round f s 0 1 ≡ fin s 0 (pos 0)
 unfolding round
@@ -142,4 +156,4 @@ round-own f s zero e a c t h p =
     zero-of (suc x) y g q = absurd (lt-irrefl 0 (subst (λ (z : ℕ). 0 < z) q (mul-pos (zero-lt-suc x) g)))
 round-own f s (suc m) e a c t h p =
     round-same f s a c (suc m * up e) (down e) h (down-pos e) p
-    ∙ own-unique f (round f s (suc m * up e) (down e)) s m e (round-fits f s (suc m * up e) (down e)) t (own-value f s m e t)
+    ∙ own-unique f (round f s (suc m * up e) (down e)) s m e (round-fits f s (suc m * up e) (down e)) t (own-value f s (suc m) e t)

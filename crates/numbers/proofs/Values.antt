@@ -2,7 +2,7 @@
 use mathlib.Core.Path.{_≡_, refl, sym, ap, ap₂, _∙_, subst}
 use mathlib.Core.Logic.{inl, inr}
 use Prim.Native.Nat.{ℕ, zero, suc, _+_, _-_, _*_, _/_, _%_, _^_, _≤_, _<_}
-use native.Mathlib.Nat.{mul-one, mul-pos, mul-assoc, mul-comm, mul-right-comm, mul-le-mul-right, mul-lt-mul-of-pos-right}
+use native.Mathlib.Nat.{mul-one, mul-pos, mul-assoc, mul-comm, mul-right-comm, mul-le-mul-right, mul-lt-mul-of-pos-right, lt-of-mul-lt-mul-right}
 use native.Mathlib.Omega.{arith}
 use mathlib.Core.Bool.{Bool, false, cond}
 use lib.IntN.{ℤ}
@@ -113,8 +113,16 @@ no-digits m e n c p h z =
     omega arith
 
 -- a fraction Z / L, and a further denominator
-pub over : (M D E Z L : ℕ) → M * L ≡ Z * E → M * D * L ≡ Z * (E * D)
+over : (M D E Z L : ℕ) → M * L ≡ Z * E → M * D * L ≡ Z * (E * D)
 over M D E Z L g = mul-right-comm M D L ∙ ap (λ (z : ℕ). z * D) g ∙ mul-assoc Z E D
+
+-- X / L < Y / L, which are M / E and N / D
+pub smaller-parts : (M N E D X Y L : ℕ) → 0 < E → 0 < D → M * L ≡ X * E → N * L ≡ Y * D → X < Y → M * D < N * E
+smaller-parts M N E D X Y L P Q h k l =
+    let a : M * D * L ≡ X * (E * D) = over M D E X L h in
+    let b : N * E * L ≡ Y * (D * E) = over N E D Y L k in
+    let g : X * (E * D) < Y * (E * D) = mul-lt-mul-of-pos-right l (mul-pos P Q) in
+    lt-of-mul-lt-mul-right L (omega arith)
 
 pub rem-at : (x y : Float) (s t : Bool) (X Y L : ℕ) → 0 < L → 0 < Y → HasValue x s X L → HasValue y t Y L → rem binary64 x y ≡ round binary64 s (X % Y) L
 unfolding rem

@@ -42,9 +42,13 @@ angleNeg a = angle (Ieee.neg (a .0))
 abbrev pub angleEq : Angle → Angle → Bool
 angleEq a b = Ieee.eq (a .0) (b .0)
 
--- the remainder of a by max, moved up by max where it is below zero
+-- A remainder r below zero is moved up by max. Where the sum rounds to max itself, for a max above zero, the answer is 0; the Rust's is max.
+unfoldable pub raised : Float → Float → Float
+raised r max = pick (Ieee.eq (r ⊕ max) max && Ieee.lt (num 0) max) (num 0) (r ⊕ max)
+
+-- the remainder of a by max, moved up where it is below zero
 unfoldable pub wrapped : Float → Float → Angle
-wrapped a max = pick (Ieee.lt (remainder a max) (num 0)) (angle (remainder a max ⊕ max)) (angle (remainder a max))
+wrapped a max = pick (Ieee.lt (remainder a max) (num 0)) (angle (raised (remainder a max) max)) (angle (remainder a max))
 
 -- `normalised_to`
 unfoldable pub normalisedTo : Angle → Angle → Angle

@@ -7,7 +7,7 @@ use crate::float::to_radians;
 use crate::numbers::EPSILON;
 ghost use mathlib.Core.Path.{_≡_};
 ghost use lib.Ieee as Ieee;
-ghost use Rattle.numbers.specs.Ops.{_⊕_, num, pick};
+ghost use Rattle.numbers.specs.Ops.{num, pick};
 ghost use Rattle.numbers.specs.Angles.{angle, fromDegrees, asDegrees, angleAbs, angleNeg, angleEq, normalisedTo};
 ghost use Rattle.numbers.specs.Angles as Angles;
 
@@ -106,11 +106,24 @@ fn normalised_radians(radians: f64, max: f64) -> f64
 
 // Moved up by max where it is below zero.
 fn lifted(radians: f64, max: f64) -> f64
-    ensures { λ r. ⌜ angle r ≡ pick (Ieee.lt radians (num 0)) (angle (radians ⊕ max)) (angle radians) ⌝ }
+    ensures { λ r. ⌜ angle r ≡ pick (Ieee.lt radians (num 0)) (angle (Angles.raised radians max)) (angle radians) ⌝ }
 {
     if radians < 0.0 {
-        radians + max
+        raised(radians, max)
     } else {
         radians
     }
+}
+
+// Moved up by max. Where the sum rounds to a max above zero, 0, so that a bearing is below the whole turn.
+fn raised(radians: f64, max: f64) -> f64
+    ensures { λ r. ⌜ r ≡ Angles.raised radians max ⌝ }
+{
+    let sum = radians + max;
+    if sum == max {
+        if max > 0.0 {
+            return 0.0;
+        }
+    }
+    sum
 }
