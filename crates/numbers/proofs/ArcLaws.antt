@@ -55,6 +55,10 @@ level-zero false false = refl
 none : (a k : ℕ) → a ≡ 0 → a * k ≡ 0
 none a k h = ap (λ (x : ℕ). x * k) h ∙ zero-mul k
 
+pub zero-at : (s : Bool) (m : ℕ) (e : ℤ) → m ≡ 0 → zero? (fin s m e) ≡ true
+unfolding eq decimal
+zero-at s m e p = (λ i. level s (none (m * up e) 1 (none m (up e) p) i) false (zero-mul (down e) i)) ∙ level-zero s false
+
 zeros-lt : (s : Bool) (m : ℕ) (e : ℤ) (t : Bool) (n : ℕ) (d : ℤ) → m * up e ≡ 0 → n * up d ≡ 0 → lt (fin s m e) (fin t n d) ≡ false
 unfolding lt
 zeros-lt s m e t n d p q = (λ i. below s (none (m * up e) (down d) p i) t (none (n * up d) (down e) q i)) ∙ below-zero s t

@@ -18,6 +18,7 @@ pub mod WholeLaw
 pub mod RemLaws
 pub mod CeilLaw
 pub mod Range
+pub mod ArcBounds
 pub mod FitLaws
 pub mod AngleLaws
 pub mod NormalisedLaws

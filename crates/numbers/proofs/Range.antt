@@ -1,7 +1,7 @@
 -- The angles that `sin` and `cos` take, from -64 to 64: what is known within and outside, and that the number of quarter turns is small. Assumes nothing.
 use mathlib.Core.Path.{_≡_, refl, sym, ap}
 use Prim.Native.Nat.{ℕ, zero, suc, _+_, _*_, _%_, _^_, _≤_, _<_}
-use native.Mathlib.Nat.{le-of-eq, le-trans, mul-le-mul-right}
+use native.Mathlib.Nat.{le-of-eq}
 use native.Mathlib.Omega.{arith}
 use mathlib.Core.Bool.{Bool, true, false, _&&_, true≢false}
 use lib.IntN.{ℤ, pos, negsuc}
@@ -10,16 +10,14 @@ use lib.Ieee.{Float, nan, inf, fin, binary64, up, down, le, neg, ofInt}
 use Rattle.numbers.specs.Ops.{_⊖_, _⊗_, decimal, num, pick}
 use Rattle.numbers.specs.Sine.{Bounded, reduced, turns, rest, mod4, sinBy, cosBy, within64}
 use Rattle.numbers.proofs.WholeLaw.{at-most}
-use Rattle.numbers.proofs.Bounds.{bounded-mul, bounded-sub}
+use Rattle.numbers.proofs.Bounds.{wider, le-fractions, bounded-mul, bounded-sub}
 
 bounded : (x : Float) → le (neg (num 64)) x ≡ true → le x (num 64) ≡ true → Bounded x 64
 unfolding le decimal neg
 bounded nan h k = absurd (true≢false (sym h))
 bounded (inf true) h k = absurd (true≢false (sym h))
 bounded (inf false) h k = absurd (true≢false (sym k))
-bounded (fin false m e) h k =
-    let l : m * up e * 1 ≤ 64 * down e = at-most (m * up e * 1) (64 * down e) (eqb (m * up e * 1) (64 * down e)) true (λ t. le-of-eq (eqb→eq (m * up e * 1) (64 * down e) t)) k in
-    omega arith
+bounded (fin false m e) h k = let l : m * up e * 1 ≤ 64 * down e = le-fractions m e 1 (pos 6) k in omega arith
 bounded (fin true m e) h k =
     let l : m * up e * 1 ≤ 64 * down e = at-most (m * up e * 1) (64 * down e) (eqb (64 * down e) (m * up e * 1)) true (λ t. le-of-eq (sym (eqb→eq (64 * down e) (m * up e * 1) t))) h in
     omega arith
@@ -32,17 +30,12 @@ half : Bounded (decimal 5 1) 1
 unfolding decimal
 half = lit≤ tt
 
-wider : (x : Float) (b c : ℕ) → b ≤ c → Bounded x b → Bounded x c
-wider nan b c h k = k
-wider (inf s) b c h k = k
-wider (fin s m e) b c h k = le-trans k (mul-le-mul-right (down e) h)
-
 -- what `quarters` asks
 pub asked : (x : Float) → le (neg (num 64)) x ≡ true → le x (num 64) ≡ true → Bounded (x ⊗ decimal 6366197723675814 16 ⊖ decimal 5 1) (2 ^ 50)
 asked x h k =
     let y = x ⊗ decimal 6366197723675814 16 in
-    wider (y ⊖ decimal 5 1) 261 (2 ^ 50) (lit≤ tt)
-    (bounded-sub y (decimal 5 1) 129 1 (bounded-mul x (decimal 6366197723675814 16) 64 1 (bounded x h k) factor (lit≤ tt)) half (lit≤ tt))
+    wider (y ⊖ decimal 5 1) 65 (2 ^ 50) (lit≤ tt)
+    (bounded-sub y (decimal 5 1) 64 1 (bounded-mul x (decimal 6366197723675814 16) 64 1 (bounded x h k) factor (lit≤ tt)) half (lit≤ tt))
 
 -- ---- within the range, and outside
 

@@ -66,7 +66,7 @@ digit-of-nan x e = ap (λ (v : Float). cond (signBit v) 1 0) (sym e)
 
 -- ---- the magnitude
 
-odd-abs : (d : ℕ) (s : Bool) (q k l : ℕ) → odd d false q k l ≡ abs (odd d s q k l)
+pub odd-abs : (d : ℕ) (s : Bool) (q k l : ℕ) → odd d false q k l ≡ abs (odd d s q k l)
 unfolding odd abs
 odd-abs d s zero k l = refl
 odd-abs d s (suc q) k l = refl
