@@ -1,5 +1,6 @@
 pub mod PositionLaws
 pub mod FitLaws
+pub mod BearingLaws
 pub mod FrameLaws
 pub mod RadiusLaws
 pub mod Examples

@@ -13,6 +13,7 @@ pub mod LineNumbers
 pub mod Tried
 pub mod FindKind
 pub mod Kept
+pub mod BearingLimit
 pub mod Alike
 pub mod Agree
 pub mod Sound
