@@ -5,6 +5,7 @@ use crate::feeds::Feeder;
 use crate::random;
 use crate::sample;
 use crate::words::{INPUTS, OUTPUTS, Operation, one_nan};
+use reference::request_one::met_during;
 use std::process::exit;
 
 pub struct Table {
@@ -28,6 +29,8 @@ struct Tally<'a> {
     count: u64,
     // answers of the Rust with no NaN
     plain: u64,
+    // inputs at which the Rust meets the line of request One
+    request_one: u64,
     different: u64,
 }
 
@@ -36,8 +39,9 @@ impl Tally<'_> {
         // places left as they were would show
         let mut ours = [0xa5a5_a5a5_a5a5_a5a5; OUTPUTS];
         unsafe { (self.table.apply)(self.number as u64, inputs.as_ptr(), ours.as_mut_ptr()) };
-        let theirs = self.operation.answer(inputs);
+        let (met, theirs) = met_during(|| self.operation.answer(inputs));
         self.count += 1;
+        self.request_one += met as u64;
         self.plain += !theirs.iter().any(|&b| f64::from_bits(b).is_nan()) as u64;
         if ours.map(one_nan) != theirs {
             self.different += 1;
@@ -86,9 +90,9 @@ pub fn hex(bits: &[u64]) -> String {
 fn compare(table: &Table, count: u64, seed: u64) -> bool {
     let values: Vec<u64> = random::specials().into_iter().map(f64::to_bits).collect();
     println!("seed {seed}, {count} inputs for each operation, after {} special values or every pair of them", values.len());
-    let (mut total, mut different) = (0, 0);
+    let (mut total, mut met, mut different) = (0, 0, 0);
     for (number, operation) in table.operations.iter().enumerate() {
-        let mut tally = Tally { table, number, operation, count: 0, plain: 0, different: 0 };
+        let mut tally = Tally { table, number, operation, count: 0, plain: 0, request_one: 0, different: 0 };
         match operation.inputs {
             0 => tally.generated(seed, 1),
             1 | 2 => {
@@ -99,11 +103,16 @@ fn compare(table: &Table, count: u64, seed: u64) -> bool {
         }
         let number = table.first + number;
         let Tally { count, plain, .. } = tally;
-        println!("{number:03} {:<37} {count:>10} inputs {plain:>10} without NaN {:>8} different", operation.name, tally.different);
+        print!("{number:03} {:<37} {count:>10} inputs {plain:>10} without NaN {:>8} different", operation.name, tally.different);
+        match tally.request_one {
+            0 => println!(),
+            met => println!(" {met:>8} meet request One"),
+        }
         total += tally.count;
+        met += tally.request_one;
         different += tally.different;
     }
-    println!("total: {} operations, {total} inputs, {different} different", table.operations.len());
+    println!("total: {} operations, {total} inputs, {met} meet request One, {different} different", table.operations.len());
     different == 0
 }
 

@@ -2,6 +2,7 @@
 use crate::earth::Part;
 use crate::random::{CLASSES, Random, number, power_of_two};
 use crate::remainders;
+use crate::turns;
 use std::f64::consts::PI;
 
 #[derive(Clone, Copy, PartialEq)]
@@ -14,7 +15,7 @@ pub enum Feed {
     Root,
     // two numbers, often related
     Pair,
-    // a number and the maximum to which it is brought
+    // a number and the maximum to which it is brought; here, in the next and in the last, every third turn is about where request One changes the answer
     Wrap,
     // a number to be brought to 2 PI
     WrapFull,
@@ -26,6 +27,8 @@ pub enum Feed {
     Vectors,
     // what a frame's operation takes, part by part
     Parts(&'static [Part]),
+    // the same, where a bearing is taken
+    Westward(&'static [Part]),
 }
 
 pub struct Feeder {
@@ -41,6 +44,7 @@ impl Feeder {
     }
 
     pub fn fill(&mut self, feed: Feed, inputs: &mut [u64]) {
+        let third = self.turn % 3 == 2;
         match feed {
             Feed::Nothing => {}
             Feed::Number => put(inputs, &[self.next()]),
@@ -51,7 +55,9 @@ impl Feeder {
                 put(inputs, &[if self.turn % 2 == 0 { x } else { x.abs() }])
             }
             Feed::Pair => put(inputs, &self.pair()),
+            Feed::Wrap if third => put(inputs, &turns::pair(&mut self.random, self.turn / 3)),
             Feed::Wrap => put(inputs, &self.wrap()),
+            Feed::WrapFull if third => put(inputs, &[turns::angle(&mut self.random, self.turn / 3, 2.0 * PI)]),
             Feed::WrapFull => {
                 let x = self.wrapped(2.0 * PI);
                 put(inputs, &[x])
@@ -60,6 +66,12 @@ impl Feeder {
             Feed::Decimal => inputs.copy_from_slice(&self.decimal()),
             Feed::Vectors => self.vectors(inputs),
             Feed::Parts(parts) => self.parts(parts, inputs),
+            Feed::Westward(parts) => {
+                self.parts(parts, inputs);
+                if third {
+                    turns::westward(&mut self.random, self.turn / 3, parts, inputs);
+                }
+            }
         }
         self.turn += 1;
     }

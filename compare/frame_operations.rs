@@ -1,7 +1,7 @@
 // The operations on frames by number, as the library's frames_apply takes them: what each takes and gives, and the Rust's answer.
 // An ellipsoid is the first four words; an orientation is the first word, and a vector's or a frame's answer begins with it.
 use crate::earth::Part::{self, *};
-use crate::feeds::Feed::{Nothing, Parts};
+use crate::feeds::Feed::{Nothing, Parts, Westward};
 use crate::words::{Inputs, Operation, Outputs, op};
 use reference::local::{
     Body, BodyFrame, Enu, EnuFrame, EnuVector, FrameOrientation, LocalFrame, LocalVector, Ned, NedFrame, NedVector, WanderAzimuth,
@@ -9,7 +9,6 @@ use reference::local::{
 };
 use reference::{Angle, GeocentricPosition, GeodeticPosition, LatLong, NVector, PositionVector, Surface, Vec3};
 use reference::ellipsoidal::Ellipsoid;
-use std::marker::PhantomData;
 
 // The orientations by their numbers.
 trait Numbered: FrameOrientation {
@@ -59,33 +58,6 @@ macro_rules! oriented {
     };
 }
 
-// Values with the parts as they are.
-impl Inputs<'_> {
-    fn e(&self) -> Ellipsoid {
-        Ellipsoid { equatorial_radius: self.l(0), polar_radius: self.l(1), eccentricity: self.n(2), flattening: self.n(3) }
-    }
-
-    fn g(&self, at: usize) -> GeocentricPosition {
-        GeocentricPosition { x: self.l(at), y: self.l(at + 1), z: self.l(at + 2) }
-    }
-
-    fn d(&self, at: usize) -> GeodeticPosition {
-        GeodeticPosition { hp: NVector(self.v(at)), height: self.l(at + 3) }
-    }
-
-    fn ll(&self) -> LatLong {
-        LatLong { latitude: self.a(0), longitude: self.a(1) }
-    }
-
-    fn w<O: FrameOrientation>(&self, at: usize) -> LocalVector<O> {
-        LocalVector { x: self.l(at), y: self.l(at + 1), z: self.l(at + 2), _o: PhantomData }
-    }
-
-    fn f<O: FrameOrientation>(&self) -> LocalFrame<O> {
-        LocalFrame { origin: self.v(1), dir_rm: self.m(4), inv_rm: self.m(13), _o: PhantomData }
-    }
-}
-
 impl Outputs {
     fn e(&mut self, l: Ellipsoid) {
         self.l(l.equatorial_radius);
@@ -126,14 +98,23 @@ impl Outputs {
     }
 }
 
-const fn made(name: &'static str, outputs: usize, parts: &'static [Part], answer: fn(&Inputs, &mut Outputs)) -> Operation {
-    let mut inputs = 0;
+const fn words(parts: &[Part]) -> usize {
+    let mut count = 0;
     let mut k = 0;
     while k < parts.len() {
-        inputs += parts[k].words();
+        count += parts[k].words();
         k += 1;
     }
-    op(name, inputs, outputs, Parts(parts), answer)
+    count
+}
+
+const fn made(name: &'static str, outputs: usize, parts: &'static [Part], answer: fn(&Inputs, &mut Outputs)) -> Operation {
+    op(name, words(parts), outputs, Parts(parts), answer)
+}
+
+// An operation that takes a bearing.
+const fn westward(name: &'static str, outputs: usize, parts: &'static [Part], answer: fn(&Inputs, &mut Outputs)) -> Operation {
+    op(name, words(parts), outputs, Westward(parts), answer)
 }
 
 pub static OPERATIONS: [Operation; 60] = [
@@ -162,7 +143,7 @@ pub static OPERATIONS: [Operation; 60] = [
     made("LocalVector::as_metres", 3, &[Orientation, Vector], |i, o| oriented!(i, O => o.v(i.w::<O>(1).as_metres()))),
     made("LocalVector::slant_range", 1, &[Orientation, Vector], |i, o| oriented!(i, O => o.l(i.w::<O>(1).slant_range()))),
     made("LocalVector::elevation", 1, &[Orientation, Vector], |i, o| oriented!(i, O => o.a(i.w::<O>(1).elevation()))),
-    made("LocalVector::bearing", 1, &[Orientation, Vector], |i, o| oriented!(i, O => o.a(i.w::<O>(1).bearing()))),
+    westward("LocalVector::bearing", 1, &[Orientation, Vector], |i, o| oriented!(i, O => o.a(i.w::<O>(1).bearing()))),
     made("LocalVector::add", 4, &[Orientation, Vector, Vector], |i, o| oriented!(i, O => o.w(i.w::<O>(1) + i.w::<O>(4)))),
     made("LocalVector::sub", 4, &[Orientation, Vector, Vector], |i, o| oriented!(i, O => o.w(i.w::<O>(1) - i.w::<O>(4)))),
     made("LocalVector::mul", 4, &[Orientation, Vector, Factor], |i, o| oriented!(i, O => o.w(i.w::<O>(1) * i.n(4)))),
@@ -190,10 +171,10 @@ pub static OPERATIONS: [Operation; 60] = [
     made("WanderAzimuthFrame::from_geodetic", 22, &[Figure, Geodetic, Turn], |i, o| {
         o.f(WanderAzimuthFrame::from_geodetic(i.a(8), i.d(4), i.e()))
     }),
-    made("BodyFrame::looking_at_geocentric", 22, &[Figure, Geocentric, Geocentric, Turn], |i, o| {
+    westward("BodyFrame::looking_at_geocentric", 22, &[Figure, Geocentric, Geocentric, Turn], |i, o| {
         o.f(BodyFrame::looking_at_geocentric(i.g(4), i.g(7), i.a(10), i.e()))
     }),
-    made("BodyFrame::looking_at_geodetic", 22, &[Figure, Geodetic, Geodetic, Turn], |i, o| {
+    westward("BodyFrame::looking_at_geodetic", 22, &[Figure, Geodetic, Geodetic, Turn], |i, o| {
         o.f(BodyFrame::looking_at_geodetic(i.d(4), i.d(8), i.a(12), i.e()))
     }),
     made("LocalFrame::rotate_around_z", 22, &[Level, Frame, Turn], |i, o| {

@@ -7,6 +7,7 @@ mod frame_operations;
 mod random;
 mod remainders;
 mod sample;
+mod turns;
 mod words;
 
 extern "C" {

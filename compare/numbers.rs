@@ -7,6 +7,7 @@ mod operations;
 mod random;
 mod remainders;
 mod sample;
+mod turns;
 mod words;
 
 extern "C" {

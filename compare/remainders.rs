@@ -59,12 +59,12 @@ fn any(r: &mut Random) -> f64 {
 }
 
 // Of one of so many exponents, from the given one on.
-fn above(r: &mut Random, exponent: i64, count: u64) -> f64 {
+pub fn above(r: &mut Random, exponent: i64, count: u64) -> f64 {
     let power = power_of_two(exponent + r.below(count) as i64);
     step(power, (r.bits() >> 12) as i64)
 }
 
-fn normal(r: &mut Random) -> f64 {
+pub fn normal(r: &mut Random) -> f64 {
     above(r, -1022, 2045)
 }
 
@@ -72,7 +72,7 @@ fn subnormal(r: &mut Random) -> f64 {
     number(r, 2)
 }
 
-fn least(r: &mut Random) -> f64 {
+pub fn least(r: &mut Random) -> f64 {
     f64::from_bits(1 + r.below(8))
 }
 

@@ -1,6 +1,9 @@
 // An operation by its words, bits in and bits out, and the Rust's values from and to words.
 use crate::feeds::Feed;
-use reference::{Angle, Length, Mat33, Vec3};
+use reference::ellipsoidal::Ellipsoid;
+use reference::local::{FrameOrientation, LocalFrame, LocalVector};
+use reference::{Angle, GeocentricPosition, GeodeticPosition, LatLong, Length, Mat33, NVector, Vec3};
+use std::marker::PhantomData;
 
 // Room for every operation. An operation's words stand first, zeros after them.
 pub const INPUTS: usize = 32;
@@ -35,7 +38,7 @@ pub fn one_nan(bits: u64) -> u64 {
     if f64::from_bits(bits).is_nan() { NAN } else { bits }
 }
 
-pub struct Inputs<'a>(pub &'a [u64; INPUTS]);
+pub struct Inputs<'a>(pub &'a [u64]);
 
 impl Inputs<'_> {
     pub fn n(&self, at: usize) -> f64 {
@@ -57,6 +60,33 @@ impl Inputs<'_> {
 
     pub fn m(&self, at: usize) -> Mat33 {
         Mat33 { r0: self.v(at), r1: self.v(at + 3), r2: self.v(at + 6) }
+    }
+}
+
+// The values of frames, with the parts as they are too.
+impl Inputs<'_> {
+    pub fn e(&self) -> Ellipsoid {
+        Ellipsoid { equatorial_radius: self.l(0), polar_radius: self.l(1), eccentricity: self.n(2), flattening: self.n(3) }
+    }
+
+    pub fn g(&self, at: usize) -> GeocentricPosition {
+        GeocentricPosition { x: self.l(at), y: self.l(at + 1), z: self.l(at + 2) }
+    }
+
+    pub fn d(&self, at: usize) -> GeodeticPosition {
+        GeodeticPosition { hp: NVector(self.v(at)), height: self.l(at + 3) }
+    }
+
+    pub fn ll(&self) -> LatLong {
+        LatLong { latitude: self.a(0), longitude: self.a(1) }
+    }
+
+    pub fn w<O: FrameOrientation>(&self, at: usize) -> LocalVector<O> {
+        LocalVector { x: self.l(at), y: self.l(at + 1), z: self.l(at + 2), _o: PhantomData }
+    }
+
+    pub fn f<O: FrameOrientation>(&self) -> LocalFrame<O> {
+        LocalFrame { origin: self.v(1), dir_rm: self.m(4), inv_rm: self.m(13), _o: PhantomData }
     }
 }
 

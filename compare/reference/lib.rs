@@ -1,6 +1,7 @@
 // The Rust that is compared: the published files, after the edit that `compare/build` makes, over the stand-ins.
 #![allow(dead_code, unused_imports, unexpected_cfgs)]
 
+pub mod request_one;
 pub mod standins;
 #[macro_use]
 mod measurement;

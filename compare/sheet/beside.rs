@@ -4,6 +4,7 @@ use crate::make::{Made, Sort};
 use crate::random::Random;
 use crate::sheet::words::Op;
 use crate::sheet::{LINES, OUTPUT, READINGS, check_with, run_with};
+use reference::request_one::met_during;
 use std::fmt::{Display, Formatter, Result};
 use std::slice;
 
@@ -64,6 +65,8 @@ pub struct Compared {
     pub lengths: [usize; 3],
     pub check: Answer,
     pub run: Answer,
+    // whether the interpreter's run meets the line of request One
+    pub request_one: bool,
     pub differences: Vec<String>,
 }
 
@@ -90,11 +93,11 @@ impl Beside {
         let lengths = if made.sort != Sort::Table && r.below(16) == 0 { wrong(r, &mut made) } else { RIGHT };
         let mut differences = Vec::new();
         let check = self.check(&made, lengths[0], met, &mut differences);
-        let run = self.run(&made, lengths, applied, &mut differences);
+        let (request_one, run) = met_during(|| self.run(&made, lengths, applied, &mut differences));
         if made.sort.is_admitted() && lengths == RIGHT && check.number != 0 {
             differences.push("the interpreter refuses a sheet made to pass".to_string());
         }
-        Compared { made, lengths, check, run, differences }
+        Compared { made, lengths, check, run, request_one, differences }
     }
 
     fn lent<T: Copy + PartialEq>(&self, content: &[T], guard: impl Fn(u8) -> T) -> Lent<T> {

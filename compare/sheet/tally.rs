@@ -16,6 +16,8 @@ pub struct Tally {
     bytes: u64,
     written: u64,
     total: u64,
+    // those whose run meets the line of request One
+    request_one: u64,
     pub different: u64,
 }
 
@@ -29,6 +31,7 @@ impl Tally {
             bytes: 0,
             written: 0,
             total: 0,
+            request_one: 0,
             different: 0,
         }
     }
@@ -39,6 +42,7 @@ impl Tally {
         self.bytes += compared.made.sheet.len() as u64;
         self.written += compared.run.written;
         self.total += 1;
+        self.request_one += compared.request_one as u64;
         self.different += !compared.differences.is_empty() as u64;
     }
 
@@ -59,7 +63,8 @@ impl Tally {
             });
             println!("{}", cells.collect::<String>());
         }
-        println!("total: {} sheets of {} bytes, {} bytes written, {} different", self.total, self.bytes, self.written, self.different);
+        let Tally { bytes, written, total, request_one, different, .. } = self;
+        println!("total: {total} sheets of {bytes} bytes, {written} bytes written, {request_one} meet request One, {different} different");
     }
 }
 

@@ -1,18 +1,19 @@
 // Expressions whose value lies at a limit, one part of it alone, or where a sign of zero or a tiny part decides.
 use super::Earth;
 use super::expressions::{A, D, F, G, Kind, L, V};
+use super::north;
 use crate::random::Random;
 
-const VECTORS: [&str; 4] = ["venu", "vned", "vbody", "vwan"];
+pub const VECTORS: [&str; 4] = ["venu", "vned", "vbody", "vwan"];
 
 // About x, to six digits behind the point.
-fn near(r: &mut Random, x: f64) -> String {
+pub fn near(r: &mut Random, x: f64) -> String {
     let off = r.pick(&[0.0, 0.0, 1e-6, 1e-6, 2e-6, 1e-5, 0.001, 1.0]);
     let off = r.signed(off);
     format!("{:.6}", x + off)
 }
 
-fn sign(r: &mut Random) -> &'static str {
+pub fn sign(r: &mut Random) -> &'static str {
     r.pick(&["", "-"])
 }
 
@@ -42,7 +43,7 @@ fn far(r: &mut Random, earth: &Earth) -> String {
 }
 
 pub fn expression(r: &mut Random, earth: &Earth) -> (Kind, String) {
-    match r.below(9) {
+    match r.below(11) {
         0 => (G, format!("(togeo {})", far(r, earth))),
         1 => {
             let p = far(r, earth);
@@ -53,7 +54,8 @@ pub fn expression(r: &mut Random, earth: &Earth) -> (Kind, String) {
         4 | 5 => combined(r),
         6 => (L, ranged(r)),
         7 => measured(r),
-        _ => (G, zeros(r)),
+        8 => (G, zeros(r)),
+        _ => north::expression(r),
     }
 }
 

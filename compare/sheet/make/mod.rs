@@ -3,6 +3,7 @@ mod bounds;
 mod broken;
 mod edges;
 mod expressions;
+mod north;
 mod numerals;
 pub mod table;
 
