@@ -3,10 +3,10 @@
     tried.py FOLDER    writes FOLDER/stdin and FOLDER/stdout
 
 Sheets and answers are written here from document 01: first its "Sheets to try", in its order, then sheets on its other
-statements. Nothing is taken from the program's output, and nothing of this repository's Rattle is used. A sheet of which
-01 says only that it passes shows nothing but numbers that stand in it or among its readings. `compare/tried-run` makes
-both files anew and compares them with the first part of the stored ones; the gate runs the program and compares what it
-prints.
+statements; behind them from the requests of document 02. Nothing is taken from the program's output, and nothing of this
+repository's Rattle is used. A sheet of which 01 says only that it passes shows nothing but numbers that stand in it or
+among its readings. `compare/tried-run` makes both files anew and compares them with the first part of the stored ones;
+the gate runs the program and compares what it prints.
 """
 
 import struct
@@ -20,6 +20,7 @@ POLE = "(ellipsoid 6400000 128)"
 WGS84 = "(ellipsoid wgs84)"
 NAN = 0x7FF8000000000000
 PI_HALF = 1.5707963267948966
+WHOLE_TURN = 4 * PI_HALF
 
 
 def bits(x):
@@ -238,10 +239,54 @@ def table():
         yield refused(lines + ["(let y %s)" % made], 6, len(lines) + 1)
 
 
+# ---- document 02
+
+# So little east with 1 metre north is its own atan2, since the polynomial in its square is 1; its sum with 2 PI is one
+# addition. -2^-51 lies half way to the double below 2 PI, a tie, which goes to 2 PI.
+LEAST = -(2.0**-51)
+GREATEST = -(2.0**-1074)
+
+
+def bearings(east, bearing):
+    """East, as r0, and 1 metre north, by each orientation."""
+    lines, text = [WGS84], ""
+    for kind, vector in ("venu", "(m r0) (m 1)"), ("vned", "(m 1) (m r0)"), ("vbody", "(m 1) (m r0)"), ("vwan", "(m 1) (m r0)"):
+        lines += ["(let %s (bearing (%s %s (m 0))))" % ("b" + kind, kind, vector), "(show b%s)" % kind]
+        text += shown("b" + kind, "a", bearing)
+    return passes(lines, "a " * 8, text, {0: bits(east)})
+
+
+def whole_turn():
+    """Request One: a bearing is never a whole turn, and a look's yaw neither."""
+    below = LEAST - 2.0**-103
+    assert below + WHOLE_TURN < LEAST + WHOLE_TURN == WHOLE_TURN and bits(below + WHOLE_TURN) == 0x401921FB54442D17
+    for east in LEAST, -1e-300, GREATEST:
+        yield bearings(east, 0.0)
+    yield bearings(below, below + WHOLE_TURN)
+    yield bearings(-0.0, -0.0)
+    # tenths that do not add up to zero
+    lines = [WGS84, "(let u (add (venu (m 0.1) (m 0) (m 0)) (venu (m 0.2) (m 0) (m 0))))", "(let v (sub (venu (m 0.3) (m 1) (m 0)) u))"]
+    east = 0.3 - (0.1 + 0.2)
+    assert LEAST < east < 0
+    text = shown("v", "venu", east, 1.0, 0.0) + shown("a", "a", 0.0)
+    yield passes(lines + ["(let a (bearing v))", "(show v)", "(show a)"], "venu venu a venu a", text)
+    # the sine of 360 degrees is what remains of them, the cosine 1
+    assert LEAST < (360 * (2 * PI_HALF / 180) - 4 * 1.5707963267341256) - 4 * 6.077100506506192e-11 < 0
+    yield passes([WGS84, "(let a (bearing (aenu (deg 360) (deg 0) (m 1))))", "(show a)"], "a a", shown("a", "a", 0.0))
+    # at the pole of the first sheet north is (0, -1, 0) and west (1, 0, 0); a look due north and one a hair west of it, both
+    # level, have that place's own axes: each factor is 0, 1 or -1
+    lines = [POLE, "(let p (geo (m 0) (m 0) (m 6350000)))"]
+    for name, x in ("f", "0"), ("g", "r0"):
+        lines += ["(let %s (look p (geo (m %s) (m -1000) (m 6350000)) (deg 0)))" % (name, x), "(show %s)" % name]
+    fields = (0.0, 0.0, 6350000.0, 0.0, -1.0, 0.0, -1.0, 0.0, 0.0, 0.0, 0.0, -1.0)
+    for west in -1000 * LEAST, 1e-300:
+        yield passes(lines, "g" + " fbody" * 4, shown("f", "fbody", *fields) + shown("g", "fbody", *fields), {0: bits(west)})
+
+
 def main(folder):
     count = 0
     with open(folder / "stdin", "w") as given, open(folder / "stdout", "w") as expected:
-        for cases in sheets_to_try, sizes, grammar, order, stopping, showing, operators, table:
+        for cases in sheets_to_try, sizes, grammar, order, stopping, showing, operators, table, whole_turn:
             for sheet, said in cases():
                 given.write(sheet)
                 expected.write(said)
