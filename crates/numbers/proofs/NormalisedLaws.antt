@@ -7,9 +7,9 @@ use Prim.Native.Nat.{ℕ, zero, suc, _+_, _-_, _*_, _/_, _%_, _^_, _≤_, _<_, z
 use native.Mathlib.Nat.{mod-lt, div-add-mod', mul-pos, mul-assoc, mul-le-mul-right, le-trans, le-of-eq, sub-le, lt-of-le-of-lt, zero-lt-suc}
 use native.Mathlib.Omega.{arith}
 use mathlib.Core.Bool.{Bool, true, false, not, cond, _&&_, _||_, true≢false}
-use borrow.Author.Tests.{ltb-true, ltb-false, le-ltb}
+use borrow.Author.Tests.{ltb-true, ltb-false, lt-ltb, le-ltb}
 use lib.IntN.{ℤ, pos}
-use lib.Dec.{T, ltb, lt→ltb}
+use lib.Dec.{T, ltb}
 use lib.Pow.{pow-pos, pow-add}
 use lib.Ieee.{Float, nan, inf, fin, binary64, up, down, round, rem, add, sum, lt, le, eq}
 use lib.Ieee.Exact.{HasValue, round-exact}
@@ -32,7 +32,7 @@ use Rattle.numbers.proofs.ArcLaws.{zeros-le}
 use Rattle.numbers.proofs.Values.{smaller-parts, rem-at}
 use Rattle.numbers.proofs.WholeLaw.{le-not-lt}
 
--- at least zero, and below max
+-- at least zero and below max, compared as numbers: minus zero is at least zero
 pub record Below (max x : Float) : Type 0 where
   pub from-zero : le (num 0) x ≡ true
   pub short-of : lt x max ≡ true
@@ -42,7 +42,7 @@ pub record Below (max x : Float) : Type 0 where
 mod-le : (a b : ℕ) → a % b ≤ a
 mod-le a b = let e : a / b * b + a % b ≡ a = div-add-mod' a b in omega arith
 
--- what b leaves of a is q * 2 ^ i
+-- what b leaves of a is q * 2 ^ i, with a q below the limit
 record Left (a b limit : ℕ) : Type 0 where
   q : ℕ
   i : ℕ
@@ -63,7 +63,7 @@ left m j n k limit p a b = elim (below-or-not j k) [
   | inr l ↦ let h : m * 2 ^ (j - k) % n < n = mod-lt (m * 2 ^ (j - k)) p in record { q = m * 2 ^ (j - k) % n; i = k; is = shares m j n k p l; short = omega arith }
 ]
 
--- the remainder r by a y above zero, both in units of the smallest double
+-- the remainder r by a y above zero, both in units of the smallest double, and the sign s of r
 record Rest (r y : Float) (s : Bool) : Type 0 where
   R : ℕ
   Y : ℕ
@@ -91,11 +91,11 @@ rest-of s m e n d f g p =
 
 -- ---- comparisons of finite values
 
--- below y, whatever its sign, where it is smaller
+-- a value of either sign is below a larger one without
 below-by : (s : Bool) (m : ℕ) (e : ℤ) (n : ℕ) (d : ℤ) → m * up e * down d < n * up d * down e → lt (fin s m e) (fin false n d) ≡ true
 unfolding lt
-below-by false m e n d l = is-true (ltb (m * up e * down d) (n * up d * down e)) (lt→ltb (m * up e * down d) (n * up d * down e) l)
-below-by true m e n d l = is-true (ltb 0 (m * up e * down d + n * up d * down e)) (lt→ltb 0 (m * up e * down d + n * up d * down e) (omega arith))
+below-by false m e n d l = lt-ltb (m * up e * down d) (n * up d * down e) l
+below-by true m e n d l = lt-ltb 0 (m * up e * down d + n * up d * down e) (omega arith)
 
 -- a finite value that is not below zero is at least zero
 at-least-zero : (s : Bool) (m : ℕ) (e : ℤ) → lt (fin s m e) (num 0) ≡ false → le (num 0) (fin s m e) ≡ true
@@ -105,7 +105,7 @@ at-least-zero true m e h =
     let l : m * up e * 1 + 0 * 1 * down e ≤ 0 = ltb-false 0 (m * up e * 1 + 0 * 1 * down e) h in
     zeros-le false 0 (pos 0) true m e refl (omega arith)
 
--- not below zero, so without the sign
+-- a value without a sign is not below zero
 no-sign : (m : ℕ) (e : ℤ) → lt (fin false m e) (num 0) ≡ true → ⊥
 unfolding lt decimal
 no-sign m e h = true≢false (sym h ∙ le-ltb (m * up e * 1) (0 * 1 * down e) (omega arith))
@@ -125,7 +125,7 @@ module _ (m : ℕ) (e : ℤ) (n : ℕ) (d : ℤ) (f : Fits (fin false n d)) (l :
 
   sum-is : fin true m e ⊕ fin false n d ≡ round binary64 false (B - A) C
   unfolding add sum
-  sum-is = ap (λ (t : Bool). cond t (round binary64 false (B - A) C) (round binary64 (ltb B A) (A - B) C)) (is-true (ltb A B) (lt→ltb A B l))
+  sum-is = ap (λ (t : Bool). cond t (round binary64 false (B - A) C) (round binary64 (ltb B A) (A - B) C)) (lt-ltb A B l)
 
   sum-from-zero : le (num 0) (fin true m e ⊕ fin false n d) ≡ true
   unfolding decimal
@@ -164,8 +164,7 @@ lifted max r = pick (lt r (num 0)) (angle (raised r max)) (angle r) .0
 by-finite : (s : Bool) (n : ℕ) (d : ℤ) → Fits (fin false n d) → lt (num 0) (fin false n d) ≡ true → (r : Float) → Rest r (fin false n d) s → Below (fin false n d) (lifted (fin false n d) r)
 by-finite s n d f p nan q = absurd (q .rest)
 by-finite s n d f p (inf t) q = absurd (q .rest)
-by-finite s n d f p (fin t k c) q =
-    go t (lt (fin t k c) (num 0)) refl
+by-finite s n d f p (fin t k c) q = go t (lt (fin t k c) (num 0)) refl
   where
     l : k * up c * down d < n * up d * down c
     l = smaller-parts (k * up c) (n * up d) (down c) (down d) (q .R) (q .Y) (2 ^ 1074) (down-pos c) (down-pos d) (q .rest .1) (q .whole .1) (q .less)
