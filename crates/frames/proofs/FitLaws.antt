@@ -50,7 +50,7 @@ unfolding wrapped raised
 wrapped-fits x max p =
     let r = remainder x max in
     pick-angle (Ieee.lt r (num 0)) (angle (raised r max)) (angle r)
-    (pick-fits (Ieee.eq (r ⊕ max) max && Ieee.lt (num 0) max) (num 0) (r ⊕ max) (decimal-fits 0 0) (add-fits binary64 r max)) (rem-fits binary64 x max p)
+    (pick-fits (Ieee.lt (num 0) max && Ieee.eq (r ⊕ max) max) (num 0) (r ⊕ max) (decimal-fits 0 0) (add-fits binary64 r max)) (rem-fits binary64 x max p)
 
 normalised-fits : (a : Angle) → FitAngle a → FitAngle (normalised a)
 unfolding normalised normalisedTo

@@ -257,7 +257,7 @@ rem-fin f s m e t n d h l = go (eqb n 0) (eqb→eq n 0)
         ∙ round-own f s m e (m * up e * down d) (down e * down d) h (mul-pos (down-pos e) (down-pos d)) whole
 
 -- from the two comparisons
-smaller : (s : Bool) (a : ℕ) (t : Bool) (b : ℕ) → below (not t) b s a ≡ true → below s a t b ≡ true → a < b
+pub smaller : (s : Bool) (a : ℕ) (t : Bool) (b : ℕ) → below (not t) b s a ≡ true → below s a t b ≡ true → a < b
 smaller false a false b h k = ltb→lt a b (subst T (sym k) tt)
 smaller true a false b h k = ltb→lt a b (subst T (sym h) tt)
 smaller false a true b h k = absurd (true≢false (sym k))

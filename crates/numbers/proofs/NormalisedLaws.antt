@@ -144,16 +144,16 @@ zero-le-zero = refl
 -- 0 where the sum is max itself
 raised-below : (r max : Float) → lt (num 0) max ≡ true → le (num 0) (r ⊕ max) ≡ true → le (r ⊕ max) max ≡ true → Below max (raised r max)
 unfolding raised le
-raised-below r max p h k = go (eq (r ⊕ max) max) (lt (num 0) max) p k
+raised-below r max p h k = go (lt (num 0) max) (eq (r ⊕ max) max) p k
   where
     only : (t : Bool) → (t || false) ≡ true → t ≡ true
     only true e = refl
     only false e = e
 
-    go : (t u : Bool) → u ≡ true → (lt (r ⊕ max) max || t) ≡ true → Below max (pick (t && u) (num 0) (r ⊕ max))
+    go : (u t : Bool) → u ≡ true → (lt (r ⊕ max) max || t) ≡ true → Below max (pick (u && t) (num 0) (r ⊕ max))
     go true true e q = record { from-zero = zero-le-zero; short-of = p }
-    go true false e q = absurd (true≢false (sym e))
-    go false u e q = record { from-zero = h; short-of = only (lt (r ⊕ max) max) q }
+    go true false e q = record { from-zero = h; short-of = only (lt (r ⊕ max) max) q }
+    go false t e q = absurd (true≢false (sym e))
 
 -- ---- wrapped, and normalised
 

@@ -42,9 +42,9 @@ angleNeg a = angle (Ieee.neg (a .0))
 abbrev pub angleEq : Angle → Angle → Bool
 angleEq a b = Ieee.eq (a .0) (b .0)
 
--- A remainder r below zero is moved up by max. Where the sum rounds to max itself, for a max above zero, the answer is 0; the Rust's is max.
+-- A remainder r below zero is moved up by max. For a max above zero, where the sum rounds to max itself, the answer is 0; the Rust's is max.
 unfoldable pub raised : Float → Float → Float
-raised r max = pick (Ieee.eq (r ⊕ max) max && Ieee.lt (num 0) max) (num 0) (r ⊕ max)
+raised r max = pick (Ieee.lt (num 0) max && Ieee.eq (r ⊕ max) max) (num 0) (r ⊕ max)
 
 -- the remainder of a by max, moved up where it is below zero
 unfoldable pub wrapped : Float → Float → Angle

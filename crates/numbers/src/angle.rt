@@ -7,8 +7,8 @@ use crate::float::to_radians;
 use crate::numbers::EPSILON;
 ghost use mathlib.Core.Path.{_≡_};
 ghost use lib.Ieee as Ieee;
-ghost use Rattle.numbers.specs.Ops.{num, pick};
-ghost use Rattle.numbers.specs.Angles.{angle, fromDegrees, asDegrees, angleAbs, angleNeg, angleEq, normalisedTo};
+ghost use Rattle.numbers.specs.Ops.{_⊕_, num, pick};
+ghost use Rattle.numbers.specs.Angles.{angle, fromDegrees, asDegrees, angleAbs, angleNeg, angleEq, raised, normalisedTo};
 ghost use Rattle.numbers.specs.Angles as Angles;
 
 pub struct Angle(pub f64);
@@ -90,40 +90,40 @@ fn normalised_radians(radians: f64, max: f64) -> f64
 {
     if radians > -max {
         if radians < max {
-            return lifted(radians, max);
+            return short_of(max, lifted(radians, max));
         }
+        return wrapped(rem(radians, max), max);
     }
-    if radians >= 0.0 {
-        if radians < max {
-            radians
-        } else {
-            lifted(rem(radians, max), max)
-        }
-    } else {
-        lifted(rem(radians, max), max)
-    }
+    wrapped(rem(radians, max), max)
 }
 
 // Moved up by max where it is below zero.
 fn lifted(radians: f64, max: f64) -> f64
-    ensures { λ r. ⌜ angle r ≡ pick (Ieee.lt radians (num 0)) (angle (Angles.raised radians max)) (angle radians) ⌝ }
+    ensures { λ r. ⌜ r ≡ pick (Ieee.lt radians (num 0)) (radians ⊕ max) radians ⌝ }
 {
     if radians < 0.0 {
-        raised(radians, max)
+        radians + max
     } else {
         radians
     }
 }
 
-// Moved up by max. Where the sum rounds to a max above zero, 0, so that a bearing is below the whole turn.
-fn raised(radians: f64, max: f64) -> f64
-    ensures { λ r. ⌜ r ≡ Angles.raised radians max ⌝ }
+// 0 for max itself, to which a sum may have been rounded: a bearing is below the whole turn.
+fn short_of(max: f64, radians: f64) -> f64
+    ensures { λ r. ⌜ r ≡ pick (Ieee.eq radians max) (num 0) radians ⌝ }
 {
-    let sum = radians + max;
-    if sum == max {
+    if radians == max { 0.0 } else { radians }
+}
+
+// A remainder, moved up where it is below zero.
+fn wrapped(rest: f64, max: f64) -> f64
+    ensures { λ r. ⌜ angle r ≡ pick (Ieee.lt rest (num 0)) (angle (raised rest max)) (angle rest) ⌝ }
+{
+    if rest < 0.0 {
         if max > 0.0 {
-            return 0.0;
+            return short_of(max, rest + max);
         }
+        return rest + max;
     }
-    sum
+    rest
 }

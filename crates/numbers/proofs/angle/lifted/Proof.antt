@@ -1,20 +1,16 @@
 -- `numbers::angle::lifted` meets its contract. Assumes nothing.
-use borrow.Author.Needs.{needs}
 use lib.Ieee.{ofBits}
 use Rattle.numbers.specs.Ops.{decimal}
 use Rattle.numbers.proofs.angle.lifted.Statement.{statement}
 use Rattle.numbers.proofs.angle.lifted.Tie as tie
 
-raised-requires : tie.Need-raised-requires
-raised-requires c κs = search needs
-
 returns : tie.Need-returns
 unfolding ofBits decimal
-returns c = simp (c .raised .ensures, c .before .if1 .taken)
+returns c = simp (c .if1 .taken)
 
 returns-2 : tie.Need-returns-2
 unfolding ofBits decimal
 returns-2 c = simp (c .if1 .left)
 
 pub lifted-spec : {M : Type 1} → statement M
-lifted-spec = tie.close (tie.spec raised-requires returns returns-2)
+lifted-spec = tie.close (tie.spec returns returns-2)
