@@ -9,7 +9,6 @@ unfolding ofBits decimal
 returns c = simp (c .if1 .taken)
 
 returns-2 : tie.Need-returns-2
-unfolding ofBits decimal
 returns-2 c = simp (c .if1 .left)
 
 pub short-of-spec : {M : Type 1} → statement M
