@@ -23,12 +23,14 @@ use Rattle.sheets.specs.Machine.{start, surface, machine}
 use Rattle.sheets.specs.Check.{Walked, passes, refuses, walk}
 use Rattle.sheets.specs.declared.answers.CheckAnswer.{CheckAnswer}
 use Rattle.sheets.specs.declared.answers.RunAnswer.{RunAnswer}
-use Rattle.sheets.specs.Answers.{sized, ranged, Verdict, admitted, refused, ofWalked, ofRange, ofForm, ofLent, ofSize, verdict, checkOf, laid, kindsOfVerdict, lentKinds, checkAnswer, kindsAfter, runOf, textOf, lentRun, runAnswer, outAfter}
+use Rattle.sheets.specs.Answers.{sized, ranged, Verdict, admitted, refused, ofWalked, ofRange, ofForm, ofLent, ofSize, verdict, checkOf, laid, kindsOfVerdict, lentKinds, CheckOwes, RunOf, lentRun, RunOwes}
 use Rattle.sheets.specs.code.Writing.{writes, part}
 use Rattle.sheets.proofs.WritingLaws.{name-written, laid-first}
 use Rattle.sheets.proofs.Walks.{walk-start}
 use Rattle.sheets.proofs.Sound.{agree}
 use Rattle.sheets.proofs.ClaimHolds.{unstuck, claim}
+use Rattle.sheets.proofs.ConfinedHolds.{confined}
+use Rattle.sheets.proofs.SheetLaws.{reader-reads}
 use Rattle.sheets.specs.Claim.{All}
 use Rattle.numbers.proofs.FitLaws.{Fits}
 use Rattle.sheets.specs.Both.{Both}
@@ -46,13 +48,12 @@ codes-put o d codes n i h k l m e =
 
 -- ---- the check
 
-abbrev Checks : List ℕ → List ℕ → CheckAnswer → List ℕ → Type 0
-Checks s kinds r kinds′ = (r ≡ checkAnswer s kinds) × (kinds′ ≡ kindsAfter s kinds)
+-- the verdict over what the reader reads
+abbrev judged : Bool → List ℕ → Verdict
+judged l s = verdict l s (readSheet s)
 
--- by the verdict
-checks-by : (s kinds : List ℕ) (v : Verdict) → verdict (lentKinds kinds) s ≡ v → (r : CheckAnswer) (kinds′ : List ℕ) → r ≡ checkOf v → kinds′ ≡ kindsOfVerdict v kinds → Checks s kinds r kinds′
-unfolding checkAnswer kindsAfter
-checks-by s kinds v e r kinds′ er ek = (er ∙ ap checkOf (sym e), ek ∙ ap (λ w. kindsOfVerdict w kinds) (sym e))
+checks-by : (s kinds : List ℕ) (v : Verdict) → judged (lentKinds kinds) s ≡ v → (r : CheckAnswer) (kinds′ : List ℕ) → r ≡ checkOf v → kinds′ ≡ kindsOfVerdict v kinds → CheckOwes s kinds r kinds′
+checks-by s kinds v e r kinds′ er ek = record { made = readSheet s; grammar = reader-reads s; answer = er ∙ ap checkOf (sym e); left = ek ∙ ap (λ w. kindsOfVerdict w kinds) (sym e) }
 
 yes : (t : Bool) → not t ≡ false → t ≡ true
 yes true e = refl
@@ -77,104 +78,101 @@ few-lines (admitted c cs) a (o, l, t) n e = let i : n ≡ length cs = cc in omeg
 few-lines (refused r i) a o n e = let z : _≡_ {A = ℕ} 0 1 = cc in absurd (omega arith)
 
 module _ (s : List ℕ) (b : Bool) (eb : b ≡ sized s) where
-  too-large : not b ≡ true → (l : Bool) → verdict l s ≡ refused size 0
+  too-large : not b ≡ true → (l : Bool) → judged l s ≡ refused size 0
   unfolding verdict
-  too-large h l = ap (λ t. ofSize t l s) (sym eb ∙ nay b h)
+  too-large h l = ap (λ t. ofSize t l (readSheet s)) (sym eb ∙ nay b h)
 
-  within-size : not b ≡ false → (l : Bool) → verdict l s ≡ ofLent l s
+  within-size : not b ≡ false → (l : Bool) → judged l s ≡ ofLent l (readSheet s)
   unfolding verdict
-  within-size h l = ap (λ t. ofSize t l s) (sym eb ∙ yes b h)
+  within-size h l = ap (λ t. ofSize t l (readSheet s)) (sym eb ∙ yes b h)
 
   module _ (kinds : List ℕ) where
-    pub check-size : not b ≡ true → Checks s kinds (record { number = 1; line = 0 }) kinds
+    pub check-size : not b ≡ true → CheckOwes s kinds (record { number = 1; line = 0 }) kinds
     check-size h = checks-by s kinds (refused size 0) (too-large h (lentKinds kinds)) _ _ refl refl
 
-    pub check-lent : not b ≡ false → (length kinds ≡ 96 → ⊥) → Checks s kinds (record { number = 2; line = 0 }) kinds
-    check-lent h n = checks-by s kinds (refused lent 0) (within-size h (lentKinds kinds) ∙ ap (λ t. ofLent t s) (ne-eqb (length kinds) 96 n)) _ _ refl refl
+    pub check-lent : not b ≡ false → (length kinds ≡ 96 → ⊥) → CheckOwes s kinds (record { number = 2; line = 0 }) kinds
+    check-lent h n = checks-by s kinds (refused lent 0) (within-size h (lentKinds kinds) ∙ ap (λ t. ofLent t (readSheet s)) (ne-eqb (length kinds) 96 n)) _ _ refl refl
 
     module _ (h : not b ≡ false) (n : length kinds ≡ 96) (a : Admission) (ha : Admits (ofForm (readSheet s)) a) where
-      formed-is : verdict (lentKinds kinds) s ≡ ofForm (readSheet s)
-      formed-is = within-size h (lentKinds kinds) ∙ ap (λ t. ofLent t s) (eq-eqb (length kinds) 96 n)
+      formed-is : judged (lentKinds kinds) s ≡ ofForm (readSheet s)
+      formed-is = within-size h (lentKinds kinds) ∙ ap (λ t. ofLent t (readSheet s)) (eq-eqb (length kinds) 96 n)
 
-      pub check-refused : (k j : ℕ) → a .outcome ≡ Outcome.Refuses k j → Checks s kinds (record { number = k; line = j }) kinds
+      pub check-refused : (k j : ℕ) → a .outcome ≡ Outcome.Refuses k j → CheckOwes s kinds (record { number = k; line = j }) kinds
       unfolding Admits
       check-refused k j e = go (ofForm (readSheet s)) formed-is ha
         where
-          go : (v : Verdict) → verdict (lentKinds kinds) s ≡ v → Admits v a → Checks s kinds (record { number = k; line = j }) kinds
+          go : (v : Verdict) → judged (lentKinds kinds) s ≡ v → Admits v a → CheckOwes s kinds (record { number = k; line = j }) kinds
           go (admitted c cs) ev (o, l, t) = let z : _≡_ {A = ℕ} 0 1 = cc in absurd (omega arith)
           go (refused r i) ev o =
               let ik : k ≡ refusalNumber r = cc in
               let ij : j ≡ i = cc in
               checks-by s kinds (refused r i) ev _ _ (ap (λ y. record { number = y; line = j }) ik ∙ ap (λ y. record { number = refusalNumber r; line = y }) ij) refl
 
-      pub check-passes : (n : ℕ) → a .outcome ≡ Outcome.Passes n → (kinds′ : List ℕ) → kinds′ ≡ laid (take n (a .codes)) kinds → Checks s kinds (record { number = 0; line = 0 }) kinds′
+      pub check-passes : (n : ℕ) → a .outcome ≡ Outcome.Passes n → (kinds′ : List ℕ) → kinds′ ≡ laid (take n (a .codes)) kinds → CheckOwes s kinds (record { number = 0; line = 0 }) kinds′
       unfolding Admits
       check-passes n e kinds′ ek = go (ofForm (readSheet s)) formed-is ha
         where
-          go : (v : Verdict) → verdict (lentKinds kinds) s ≡ v → Admits v a → Checks s kinds (record { number = 0; line = 0 }) kinds′
+          go : (v : Verdict) → judged (lentKinds kinds) s ≡ v → Admits v a → CheckOwes s kinds (record { number = 0; line = 0 }) kinds′
           go (admitted c cs) ev (o, l, t) =
               let i : n ≡ length cs = cc in
               checks-by s kinds (admitted c cs) ev _ _ refl (ek ∙ ap (λ y. laid (take y (a .codes)) kinds) i ∙ ap (λ y. laid y kinds) t)
           go (refused r i) ev o = let z : _≡_ {A = ℕ} 0 1 = cc in absurd (omega arith)
-          -- ---- the run
+
+  -- ---- the run
 
   module _ (rs : List Float) (out : List ℕ) where
-    abbrev Ran : RunAnswer → List ℕ → Type 0
-    Ran r out′ = (r ≡ runAnswer s rs out) × (out′ ≡ outAfter s rs out)
+    ran-by : (v : Verdict) → judged (lentRun rs out) s ≡ v → (r : RunAnswer) (out′ : List ℕ) → RunOf v rs out r out′ → RunOwes s rs out r out′
+    ran-by v e r out′ h = record { made = readSheet s; grammar = reader-reads s; answer = subst (λ w. RunOf w rs out r out′) (sym e) h }
 
-    ran-by : (v : Verdict) → verdict (lentRun rs out) s ≡ v → (r : RunAnswer) (out′ : List ℕ) → r ≡ runOf v rs → out′ ≡ laid (textOf v rs) out → Ran r out′
-    unfolding runAnswer outAfter
-    ran-by v e r out′ er eo = (er ∙ ap (λ w. runOf w rs) (sym e), eo ∙ ap (λ w. laid (textOf w rs) out) (sym e))
+    pub run-size : not b ≡ true → (r : RunAnswer) → r ≡ record { number = 1; line = 0; written = 0 } → RunOwes s rs out r out
+    run-size h r er = ran-by (refused size 0) (too-large h (lentRun rs out)) r out (er, refl)
 
-    pub run-size : not b ≡ true → (r : RunAnswer) → r ≡ record { number = 1; line = 0; written = 0 } → Ran r out
-    run-size h r er = ran-by (refused size 0) (too-large h (lentRun rs out)) r out er refl
+    unlent : not b ≡ false → lentRun rs out ≡ false → (r : RunAnswer) → r ≡ record { number = 2; line = 0; written = 0 } → RunOwes s rs out r out
+    unlent h e r er = ran-by (refused lent 0) (within-size h (lentRun rs out) ∙ ap (λ t. ofLent t (readSheet s)) e) r out (er, refl)
 
-    unlent : not b ≡ false → lentRun rs out ≡ false → (r : RunAnswer) → r ≡ record { number = 2; line = 0; written = 0 } → Ran r out
-    unlent h e r er = ran-by (refused lent 0) (within-size h (lentRun rs out) ∙ ap (λ t. ofLent t s) e) r out er refl
-
-    pub run-readings : not b ≡ false → (length rs ≡ 16 → ⊥) → (r : RunAnswer) → r ≡ record { number = 2; line = 0; written = 0 } → Ran r out
+    pub run-readings : not b ≡ false → (length rs ≡ 16 → ⊥) → (r : RunAnswer) → r ≡ record { number = 2; line = 0; written = 0 } → RunOwes s rs out r out
     run-readings h n = unlent h (ap (λ t. t && eqb (length out) 24576) (ne-eqb (length rs) 16 n))
 
     module _ (h : not b ≡ false) (n : length rs ≡ 16) where
       lent-by : (t : Bool) → eqb (length out) 24576 ≡ t → lentRun rs out ≡ t
       lent-by t e = ap (λ u. u && eqb (length out) 24576) (eq-eqb (length rs) 16 n) ∙ e
 
-      pub run-out : (length out ≡ 24576 → ⊥) → (r : RunAnswer) → r ≡ record { number = 2; line = 0; written = 0 } → Ran r out
+      pub run-out : (length out ≡ 24576 → ⊥) → (r : RunAnswer) → r ≡ record { number = 2; line = 0; written = 0 } → RunOwes s rs out r out
       run-out o = unlent h (lent-by false (ne-eqb (length out) 24576 o))
 
       module _ (o : length out ≡ 24576) (a : Admission) (ha : Admits (ofForm (readSheet s)) a) where
-        run-formed : verdict (lentRun rs out) s ≡ ofForm (readSheet s)
-        run-formed = within-size h (lentRun rs out) ∙ ap (λ t. ofLent t s) (lent-by true (eq-eqb (length out) 24576 o))
+        run-formed : judged (lentRun rs out) s ≡ ofForm (readSheet s)
+        run-formed = within-size h (lentRun rs out) ∙ ap (λ t. ofLent t (readSheet s)) (lent-by true (eq-eqb (length out) 24576 o))
 
-        pub run-refused : (k j : ℕ) → a .outcome ≡ Outcome.Refuses k j → (r : RunAnswer) → r ≡ record { number = k; line = j; written = 0 } → Ran r out
+        pub run-refused : (k j : ℕ) → a .outcome ≡ Outcome.Refuses k j → (r : RunAnswer) → r ≡ record { number = k; line = j; written = 0 } → RunOwes s rs out r out
         unfolding Admits
         run-refused k j e r er = go (ofForm (readSheet s)) run-formed ha
           where
-            go : (v : Verdict) → verdict (lentRun rs out) s ≡ v → Admits v a → Ran r out
+            go : (v : Verdict) → judged (lentRun rs out) s ≡ v → Admits v a → RunOwes s rs out r out
             go (admitted c cs) ev (p, l, t) = let z : _≡_ {A = ℕ} 0 1 = cc in absurd (omega arith)
             go (refused f i) ev p =
                 let ik : k ≡ refusalNumber f = cc in
                 let ij : j ≡ i = cc in
-                ran-by (refused f i) ev r out (er ∙ ap (λ y. record { number = y; line = j; written = 0 }) ik ∙ ap (λ y. record { number = refusalNumber f; line = y; written = 0 }) ij) refl
+                ran-by (refused f i) ev r out (er ∙ ap (λ y. record { number = y; line = j; written = 0 }) ik ∙ ap (λ y. record { number = refusalNumber f; line = y; written = 0 }) ij, refl)
 
         module _ (m : ℕ) (e : a .outcome ≡ Outcome.Passes m) (f : FirstLine) (ef : f ≡ firstOf (readHead s)) where
           -- a sheet that passes: its tree, its ellipsoid in range, the walk over its lines
-          passing : (c : Sheet) × (cs : List ℕ) × (readSheet s ≡ formed c) × (ranged (c .head) ≡ true) × (walk c ≡ passes cs) × (verdict (lentRun rs out) s ≡ admitted c (255 ∷ cs))
+          passing : (c : Sheet) × (cs : List ℕ) × (readSheet s ≡ formed c) × (ranged (c .head) ≡ true) × (walk c ≡ passes cs) × (judged (lentRun rs out) s ≡ admitted c (255 ∷ cs))
           unfolding Admits
           passing = go (readSheet s) refl ha
             where
               walked : (c : Sheet) → readSheet s ≡ formed c → ranged (c .head) ≡ true → (o : Walked) → walk c ≡ o → Admits (ofWalked c o) a
-                  → (c : Sheet) × (cs : List ℕ) × (readSheet s ≡ formed c) × (ranged (c .head) ≡ true) × (walk c ≡ passes cs) × (verdict (lentRun rs out) s ≡ admitted c (255 ∷ cs))
+                  → (c : Sheet) × (cs : List ℕ) × (readSheet s ≡ formed c) × (ranged (c .head) ≡ true) × (walk c ≡ passes cs) × (judged (lentRun rs out) s ≡ admitted c (255 ∷ cs))
               walked c es er (passes cs) ew p = (c, cs, es, er, ew, run-formed ∙ ap ofForm es ∙ ap (λ t. ofRange t c) er ∙ ap (ofWalked c) ew)
               walked c es er (refuses q j) ew p = let z : _≡_ {A = ℕ} 0 1 = cc in absurd (omega arith)
 
               range : (c : Sheet) → readSheet s ≡ formed c → (t : Bool) → ranged (c .head) ≡ t → Admits (ofRange t c) a
-                  → (c : Sheet) × (cs : List ℕ) × (readSheet s ≡ formed c) × (ranged (c .head) ≡ true) × (walk c ≡ passes cs) × (verdict (lentRun rs out) s ≡ admitted c (255 ∷ cs))
+                  → (c : Sheet) × (cs : List ℕ) × (readSheet s ≡ formed c) × (ranged (c .head) ≡ true) × (walk c ≡ passes cs) × (judged (lentRun rs out) s ≡ admitted c (255 ∷ cs))
               range c es true er p = walked c es er (walk c) refl p
               range c es false er p = let z : _≡_ {A = ℕ} 0 1 = cc in absurd (omega arith)
 
               go : (t : Form Sheet) → readSheet s ≡ t → Admits (ofForm t) a
-                  → (c : Sheet) × (cs : List ℕ) × (readSheet s ≡ formed c) × (ranged (c .head) ≡ true) × (walk c ≡ passes cs) × (verdict (lentRun rs out) s ≡ admitted c (255 ∷ cs))
+                  → (c : Sheet) × (cs : List ℕ) × (readSheet s ≡ formed c) × (ranged (c .head) ≡ true) × (walk c ≡ passes cs) × (judged (lentRun rs out) s ≡ admitted c (255 ∷ cs))
               go (formed c) es p = range c es (ranged (c .head)) refl p
               go (badLine j) es p = let z : _≡_ {A = ℕ} 0 1 = cc in absurd (omega arith)
 
@@ -185,16 +183,16 @@ module _ (s : List ℕ) (b : Bool) (eb : b ≡ sized s) where
               let (n, eh, el) = walk-start s (passing .0) (passing .2) in
               (n, ef ∙ ap firstOf eh ∙ ap (λ t. firstIn t (passing .0 .head) n) (passing .3), el)
 
-          pub run-no-other : (g : FirstLine) → f ≡ g → ((e : Ellipsoid) (n : ℕ) → g ≡ FirstLine.Is e n → ⊥) → (r : RunAnswer) (out′ : List ℕ) → Ran r out′
+          pub run-no-other : (g : FirstLine) → f ≡ g → ((e : Ellipsoid) (n : ℕ) → g ≡ FirstLine.Is e n → ⊥) → (r : RunAnswer) (out′ : List ℕ) → RunOwes s rs out r out′
           run-no-other g eg k r out′ = absurd (k (surface (passing .0 .head)) (first-is .0) (sym eg ∙ first-is .1))
 
-          pub run-lines : (el : Ellipsoid) (at : ℕ) → f ≡ FirstLine.Is el at → (r : RunAnswer) (out′ : List ℕ) → Runs s el rs out at 2 noNames 0 0 out r out′ → Ran r out′
+          pub run-lines : (el : Ellipsoid) (at : ℕ) → f ≡ FirstLine.Is el at → (r : RunAnswer) (out′ : List ℕ) → Runs s el rs out at 2 noNames 0 0 out r out′ → RunOwes s rs out r out′
           unfolding machine
           run-lines el at eg r out′ hr =
               let c = passing .0 in
               let (i, j) = same-first (surface (c .head)) el (first-is .0) at (sym (first-is .1) ∙ eg) in
               let q = hr .is o (c .lines) 95 0 (subst (λ y. readLines 95 2 0 s y ≡ formed (c .lines)) j (first-is .2)) refl (start (c .head) rs) i (tabled-start rs noNames) refl (omega arith) refl (unstuck (machine c rs) (walk c) (passing .1) (agree c rs) (passing .4)) in
-              ran-by (admitted c (255 ∷ passing .1)) (passing .5) r out′ (q .0) (q .1)
+              ran-by (admitted c (255 ∷ passing .1)) (passing .5) r out′ q
 
 -- ---- both
 
@@ -202,12 +200,10 @@ pub all-fit : (R : List Float) → ((i : ℕ) → Fits (getD R i nan)) → All F
 all-fit [] f = tt
 all-fit (r ∷ rs) f = (f 0, all-fit rs (λ i. f (suc i)))
 
-pub both : (S : List ℕ) (R : List Float) (kinds out : List ℕ) (r : BothAnswers) (kinds′ out′ : List ℕ) → (r .checked ≡ checkAnswer S kinds) × (kinds′ ≡ kindsAfter S kinds) → (r .ran ≡ runAnswer S R out) × (out′ ≡ outAfter S R out)
-    → All Fits R → Both S R kinds out r kinds′ out′
-both S R kinds out r kinds′ out′ (ec, ek) (er, eo) fits = record {
-  checked = ec;
-  kinds-left = ek;
-  ran = er;
-  out-left = eo;
-  claimed = λ k n o. rw (ec, ek, er, eo) (claim S R kinds out k n o fits);
+pub both : (S : List ℕ) (R : List Float) (kinds out : List ℕ) (r : BothAnswers) (kinds′ out′ : List ℕ) → CheckOwes S kinds (r .checked) kinds′ → RunOwes S R out (r .ran) out′ → All Fits R → Both S R kinds out r kinds′ out′
+both S R kinds out r kinds′ out′ hc hr fits = record {
+  checked = hc;
+  ran = hr;
+  confined = confined S R kinds out (r .checked) kinds′ hc (r .ran) out′ hr;
+  claimed = λ k n o. claim S R kinds out k n o fits (r .checked) kinds′ hc (r .ran) out′ hr;
 }

@@ -16,61 +16,97 @@ use Rattle.frames.specs.declared.frame.LocalFrame.{LocalFrame}
 use Rattle.frames.proofs.FrameLaws.{Sound, Home, home}
 use Rattle.sheets.specs.declared.value.Value.{Value}
 use Rattle.sheets.specs.Trees.{Sheet}
-use Rattle.sheets.specs.Grammar.{Written}
-use Rattle.sheets.specs.code.Reader.{Form, formed, badLine, readSheet}
+use Rattle.sheets.specs.Grammar.{Written, FirstBad, Form, formed, badLine, Reads}
 use Rattle.sheets.specs.Names.{Given}
 use Rattle.sheets.specs.Kinds.{Kind, kindOf, kindCode}
 use Rattle.sheets.specs.Refusals.{Fault, name, kind, limit, centre, Refusal, size, lent, form, ellipsoid, fault, stop, refusalNumber}
 use Rattle.sheets.specs.Machine.{Ran, done, stopped, stuck, machine}
 use Rattle.sheets.specs.Check.{Walked, passes, refuses, walk}
-use Rattle.sheets.specs.Answers.{sized, ranged, Verdict, admitted, refused, ofWalked, ofRange, ofForm, ofSize, verdict, CheckAnswer, checkOf, laid, kindsOfVerdict, checkAnswer, kindsAfter, runOf, textOf, lentRun, runAnswer, outAfter}
+use Rattle.sheets.specs.Answers.{sized, ranged, Verdict, admitted, refused, ofWalked, ofRange, ofForm, ofSize, verdict, CheckAnswer, checkOf, laid, kindsOfVerdict, CheckOwes, RunAnswer, Tells, RunOf, lentRun, RunOwes}
 use Rattle.sheets.specs.Claim.{Admits, Unstuck, namesGiven, framesMade, All, SticksAt, FiniteVec3, FiniteMat33, FrameHolds, Claim}
 use Rattle.sheets.proofs.Alike.{KnownLike}
 use Rattle.sheets.proofs.Agree.{Sees}
 use Rattle.sheets.proofs.Sound.{OnLine, Later, AgreeRan, agree, all-later}
 use Rattle.sheets.proofs.LinesExact.{walk-passes, walk-admits}
 use Rattle.sheets.proofs.EveryFrame.{every-frame}
-use Rattle.sheets.proofs.SheetLaws.{sheet-reads}
+use Rattle.sheets.proofs.FormLaws.{form-once}
+use Rattle.sheets.specs.Table.{when}
+
+-- ---- refusals by their numbers
+
+refusalOf : ℕ → Refusal
+refusalOf n =
+    when (eqb n 1) size (when (eqb n 2) lent (when (eqb n 3) form (when (eqb n 4) ellipsoid (when (eqb n 5) (fault name) (when (eqb n 6) (fault kind) (when (eqb n 7) (stop limit) (stop centre)))))))
+
+refusal-of : (r : Refusal) → refusalOf (refusalNumber r) ≡ r
+unfolding refusalOf
+refusal-of size = refl
+refusal-of lent = refl
+refusal-of form = refl
+refusal-of ellipsoid = refl
+refusal-of (fault name) = refl
+refusal-of (fault kind) = refl
+refusal-of (stop limit) = refl
+refusal-of (stop centre) = refl
+
+refusal-same : (r q : Refusal) → refusalNumber r ≡ refusalNumber q → r ≡ q
+refusal-same r q e = sym (refusal-of r) ∙ ap refusalOf e ∙ refusal-of q
+
+pub refusal-some : (r : Refusal) → 1 ≤ refusalNumber r
+refusal-some size = omega arith
+refusal-some lent = omega arith
+refusal-some form = omega arith
+refusal-some ellipsoid = omega arith
+refusal-some (fault name) = omega arith
+refusal-some (fault kind) = omega arith
+refusal-some (stop limit) = omega arith
+refusal-some (stop centre) = omega arith
+
+fault-some : (f : Fault) → 5 ≤ refusalNumber (fault f)
+fault-some name = omega arith
+fault-some kind = omega arith
 
 -- ---- what a verdict says, where what is lent has its length
 
-abbrev Says : List ℕ → Verdict → Type 0
+abbrev pub Says : List ℕ → Verdict → Type 0
 Says S (admitted c cs) = (ds : List ℕ) × (cs ≡ 255 ∷ ds) × Admits S c ds
-Says S (refused r j) = (f : Fault) → r ≡ fault f → (c : Sheet) × Written S c × (walk c ≡ refuses f j)
+Says S (refused r j) = ((f : Fault) → r ≡ fault f → (c : Sheet) × Written S c × (walk c ≡ refuses f j)) × (r ≡ form → (sized S ≡ true) × FirstBad S j)
 
-no-fault : (r : Refusal) (f : Fault) → refusalNumber r < 5 → r ≡ fault f → ⊥
-no-fault r name h e = let z = ap refusalNumber e in omega arith
-no-fault r kind h e = let z = ap refusalNumber e in omega arith
+-- refusals 1 and 4
+no-more : (S : List ℕ) (r : Refusal) (j : ℕ) → refusalNumber r ≤ 4 → (refusalNumber r ≡ 3 → ⊥) → Says S (refused r j)
+no-more S r j l n = ((λ f e. absurd (omega (arith, ap refusalNumber e, fault-some f, l))), (λ e. absurd (n (ap refusalNumber e))))
 
 fault-same : (f g : Fault) → fault f ≡ fault g → f ≡ g
 fault-same f g e = cc
 
 says-walked : (S : List ℕ) (c : Sheet) (o : Walked) → sized S ≡ true → Written S c → ranged (c .head) ≡ true → walk c ≡ o → Says S (ofWalked c o)
 says-walked S c (passes ds) z w h e = (ds, refl, record { size = z; grammar = w; range = h; names-and-kinds = walk-passes c ds e })
-says-walked S c (refuses f j) z w h e = λ g p. (c, w, e ∙ ap (λ (k : Fault). refuses k j) (fault-same f g p))
+says-walked S c (refuses f j) z w h e = ((λ g p. (c, w, e ∙ ap (λ (k : Fault). refuses k j) (fault-same f g p))), (λ p. absurd (omega (arith, ap refusalNumber p, fault-some f))))
 
 says-range : (S : List ℕ) (c : Sheet) (b : Bool) → sized S ≡ true → Written S c → ranged (c .head) ≡ b → Says S (ofRange b c)
 says-range S c true z w e = says-walked S c (walk c) z w e refl
-says-range S c false z w e = λ f p. absurd (no-fault ellipsoid f (omega arith) p)
+says-range S c false z w e = no-more S ellipsoid 1 (omega arith) (λ n. omega arith)
 
-says-form : (S : List ℕ) (o : Form Sheet) → sized S ≡ true → readSheet S ≡ o → Says S (ofForm o)
-says-form S (formed c) z e = says-range S c (ranged (c .head)) z (sheet-reads S c .0 e) refl
-says-form S (badLine j) z e = λ f p. absurd (no-fault form f (omega arith) p)
+says-form : (S : List ℕ) (o : Form Sheet) → sized S ≡ true → Reads S o → Says S (ofForm o)
+says-form S (formed c) z w = says-range S c (ranged (c .head)) z w refl
+says-form S (badLine j) z w = ((λ f p. absurd (omega (arith, ap refusalNumber p, fault-some f))), (λ p. (z, w)))
 
-says-size : (S : List ℕ) (b : Bool) → sized S ≡ b → Says S (ofSize b true S)
-says-size S true e = says-form S (readSheet S) e refl
-says-size S false e = λ f p. absurd (no-fault size f (omega arith) p)
-
-says : (S : List ℕ) → Says S (verdict true S)
+pub says : (S : List ℕ) (o : Form Sheet) → Reads S o → Says S (verdict true S o)
 unfolding verdict
-says S = says-size S (sized S) refl
+says S o w = go (sized S) refl
+  where
+    go : (b : Bool) → sized S ≡ b → Says S (ofSize b true o)
+    go true e = says-form S o e w
+    go false e = no-more S size 0 (omega arith) (λ n. omega arith)
 
--- what is admitted is admitted by the verdict
-admits : (S : List ℕ) (c : Sheet) (ds : List ℕ) → Admits S c ds → verdict true S ≡ admitted c (255 ∷ ds)
+-- what is admitted is admitted by the verdict, and a first bad line refused
+verdict-is : (S : List ℕ) (o p : Form Sheet) → sized S ≡ true → Reads S o → Reads S p → verdict true S o ≡ ofForm p
 unfolding verdict
-admits S c ds h =
-    ap (λ (b : Bool). ofSize b true S) (h .size) ∙ ap ofForm (sheet-reads S c .1 (h .grammar)) ∙ ap (λ (b : Bool). ofRange b c) (h .range)
-    ∙ ap (ofWalked c) (walk-admits c ds (h .names-and-kinds))
+verdict-is S o p z ho hp = ap (λ (b : Bool). ofSize b true o) z ∙ ap ofForm (form-once S o p ho hp)
+
+admits : (S : List ℕ) (c : Sheet) (ds : List ℕ) → Admits S c ds → (o : Form Sheet) → Reads S o → verdict true S o ≡ admitted c (255 ∷ ds)
+admits S c ds h o w =
+    verdict-is S o (formed c) (h .size) w (h .grammar) ∙ ap (λ (b : Bool). ofRange b c) (h .range) ∙ ap (ofWalked c) (walk-admits c ds (h .names-and-kinds))
 
 -- ---- an admitted sheet
 
@@ -136,50 +172,22 @@ sticks-at (done fs s) o f j p e = let h = p .2 in let z : _≡_ {A = ℕ} 0 1 = 
 sticks-at (stopped fs x i s) o f j p e = subst (Later i (p .0)) e (p .2)
 sticks-at (stuck fs i s) o f j p e = let h = p .1 in cc
 
-fault-number : (r : Refusal) (f : Fault) → refusalNumber r ≡ refusalNumber (fault f) → r ≡ fault f
-fault-number size name e = absurd (omega arith)
-fault-number size kind e = absurd (omega arith)
-fault-number lent name e = absurd (omega arith)
-fault-number lent kind e = absurd (omega arith)
-fault-number form name e = absurd (omega arith)
-fault-number form kind e = absurd (omega arith)
-fault-number ellipsoid name e = absurd (omega arith)
-fault-number ellipsoid kind e = absurd (omega arith)
-fault-number (fault name) name e = refl
-fault-number (fault name) kind e = absurd (omega arith)
-fault-number (fault kind) name e = absurd (omega arith)
-fault-number (fault kind) kind e = refl
-fault-number (stop limit) name e = absurd (omega arith)
-fault-number (stop limit) kind e = absurd (omega arith)
-fault-number (stop centre) name e = absurd (omega arith)
-fault-number (stop centre) kind e = absurd (omega arith)
-
 -- ---- of a verdict
-
-refusal-some : (r : Refusal) → 1 ≤ refusalNumber r
-refusal-some size = omega arith
-refusal-some lent = omega arith
-refusal-some form = omega arith
-refusal-some ellipsoid = omega arith
-refusal-some (fault name) = omega arith
-refusal-some (fault kind) = omega arith
-refusal-some (stop limit) = omega arith
-refusal-some (stop centre) = omega arith
 
 passes-admitted : (S : List ℕ) (v : Verdict) → Says S v → checkOf v .number ≡ 0 → (c : Sheet) × (codes : List ℕ) × Admits S c codes
 passes-admitted S (admitted c cs) h e = (c, h .0, h .2)
 passes-admitted S (refused r j) h e = let l = refusal-some r in absurd (omega arith)
 
-zero-fault : (f : Fault) → 0 ≡ refusalNumber (fault f) → ⊥
-zero-fault name e = omega arith
-zero-fault kind e = omega arith
-
 refusal-sticks : (S : List ℕ) (R : List Float) (v : Verdict) → Says S v → (f : Fault) → checkOf v .number ≡ refusalNumber (fault f)
     → (c : Sheet) × Written S c × SticksAt (checkOf v .line) (machine c R)
-refusal-sticks S R (admitted c cs) h f e = absurd (zero-fault f e)
+refusal-sticks S R (admitted c cs) h f e = absurd (omega (arith, e, fault-some f))
 refusal-sticks S R (refused r j) h f e =
-    let k = h f (fault-number r f e) in
+    let k = h .0 f (refusal-same r (fault f) e) in
     (k .0, k .1, sticks-at (machine (k .0) R) (walk (k .0)) f j (agree (k .0) R) (k .2))
+
+refusal-breaks : (S : List ℕ) (v : Verdict) → Says S v → checkOf v .number ≡ 3 → (sized S ≡ true) × FirstBad S (checkOf v .line)
+refusal-breaks S (admitted c cs) h e = absurd (omega arith)
+refusal-breaks S (refused r j) h e = h .1 (refusal-same r form e)
 
 -- ---- the claim
 
@@ -189,51 +197,67 @@ equal m n e = is-true (eqb m n) (subst (λ (k : ℕ). T (eqb m k)) e (eqb-refl m
 both-equal : (a b : Bool) → a ≡ true → b ≡ true → (a && b) ≡ true
 both-equal a b p q = ap (λ (x : Bool). x && b) p ∙ q
 
-module _ (S : List ℕ) (R : List Float) (kinds out : List ℕ) (k : length kinds ≡ 96) (r : length R ≡ 16) (o : length out ≡ 24576) (doubles : All Fits R) where
-  checked-is : checkAnswer S kinds ≡ checkOf (verdict true S)
-  unfolding checkAnswer
-  checked-is = ap (λ (b : Bool). checkOf (verdict b S)) (equal (length kinds) 96 k)
+module _ (S : List ℕ) (R : List Float) (kinds out : List ℕ) (k : length kinds ≡ 96) (r : length R ≡ 16) (o : length out ≡ 24576) (doubles : All Fits R)
+    (checked : CheckAnswer) (kinds′ : List ℕ) (hc : CheckOwes S kinds checked kinds′) (ran : RunAnswer) (out′ : List ℕ) (hr : RunOwes S R out ran out′) where
+  v : Verdict
+  v = verdict true S (hc .made)
 
-  kinds-are : kindsAfter S kinds ≡ kindsOfVerdict (verdict true S) kinds
-  unfolding kindsAfter
-  kinds-are = ap (λ (b : Bool). kindsOfVerdict (verdict b S) kinds) (equal (length kinds) 96 k)
+  checked-is : checked ≡ checkOf v
+  unfolding v
+  checked-is = hc .answer ∙ ap (λ (b : Bool). checkOf (verdict b S (hc .made))) (equal (length kinds) 96 k)
 
-  lent-is : lentRun R out ≡ true
-  lent-is = both-equal (eqb (length R) 16) (eqb (length out) 24576) (equal (length R) 16 r) (equal (length out) 24576 o)
+  number-is : checked .number ≡ checkOf v .number
+  number-is = ap (λ (a : CheckAnswer). a .number) checked-is
 
-  ran-is : runAnswer S R out ≡ runOf (verdict true S) R
-  unfolding runAnswer
-  ran-is = ap (λ (b : Bool). runOf (verdict b S) R) lent-is
+  line-is : checked .line ≡ checkOf v .line
+  line-is = ap (λ (a : CheckAnswer). a .line) checked-is
 
-  out-is : outAfter S R out ≡ laid (textOf (verdict true S) R) out
-  unfolding outAfter
-  out-is = ap (λ (b : Bool). laid (textOf (verdict b S) R) out) lent-is
+  v-says : Says S v
+  unfolding v
+  v-says = says S (hc .made) (hc .grammar)
+
+  v-admits : (c : Sheet) (codes : List ℕ) → Admits S c codes → v ≡ admitted c (255 ∷ codes)
+  unfolding v
+  v-admits c codes h = admits S c codes h (hc .made) (hc .grammar)
+
+  v-breaks : (j : ℕ) → sized S ≡ true → FirstBad S j → v ≡ refused form j
+  unfolding v
+  v-breaks j z w = verdict-is S (hc .made) (badLine j) z (hc .grammar) w
 
   -- of an admitted sheet
   module _ (c : Sheet) (codes : List ℕ) (h : Admits S c codes) where
-    written-codes : kindsAfter S kinds ≡ laid (255 ∷ codes) kinds
-    written-codes = kinds-are ∙ ap (λ (v : Verdict). kindsOfVerdict v kinds) (admits S c codes h)
+    written-codes : kinds′ ≡ laid (255 ∷ codes) kinds
+    unfolding v
+    written-codes = hc .left ∙ ap (λ (b : Bool). kindsOfVerdict (verdict b S (hc .made)) kinds) (equal (length kinds) 96 k) ∙ ap (λ (w : Verdict). kindsOfVerdict w kinds) (v-admits c codes h)
 
     walked : walk c ≡ passes codes
     walked = walk-admits c codes (h .names-and-kinds)
 
-    named : All (Coded (kindsAfter S kinds)) (namesGiven (machine c R))
+    named : All (Coded kinds′) (namesGiven (machine c R))
     named = subst (λ (ks : List ℕ). All (Coded ks) (namesGiven (machine c R))) (sym written-codes)
         (listed (machine c R) (walk c) codes (drop (length (255 ∷ codes)) kinds) (agree c R) walked)
 
-  pub claim : Claim S R kinds (checkAnswer S kinds) (kindsAfter S kinds) out (runAnswer S R out) (outAfter S R out)
+    runs : Tells (machine c R) out ran out′
+    runs =
+        let lent : lentRun R out ≡ true = both-equal (eqb (length R) 16) (eqb (length out) 24576) (equal (length R) 16 r) (equal (length out) 24576 o) in
+        subst (λ (w : Verdict). RunOf w R out ran out′) (admits S c codes h (hr .made) (hr .grammar)) (subst (λ (b : Bool). RunOf (verdict b S (hr .made)) R out ran out′) lent (hr .answer))
+
+  pub claim : Claim S R kinds checked kinds′ out ran out′
   claim = record {
     exactly = (
-      (λ e. passes-admitted S (verdict true S) (says S) (sym (ap (λ (a : CheckAnswer). a .number) checked-is) ∙ e)),
-      (λ h. ap (λ (a : CheckAnswer). a .number) checked-is ∙ ap (λ (v : Verdict). checkOf v .number) (admits S (h .0) (h .1) (h .2))),
+      (λ e. passes-admitted S v v-says (sym number-is ∙ e)),
+      (λ h. number-is ∙ ap (λ (w : Verdict). checkOf w .number) (v-admits (h .0) (h .1) (h .2))),
     );
     codes-written = λ c codes h. written-codes c codes h;
     never-sticks = λ c codes h. unstuck (machine c R) (walk c) codes (agree c R) (walked c codes h);
     names-have-kinds = λ c codes h. named c codes h;
-    run-is-machine = λ c codes h. ran-is ∙ ap (λ (v : Verdict). runOf v R) (admits S c codes h);
-    text-is-machine's = λ c codes h. out-is ∙ ap (λ (v : Verdict). laid (textOf v R) out) (admits S c codes h);
+    run-is-machine = λ c codes h. runs c codes h;
     frames-hold = λ c codes h. holds (framesMade (machine c R)) (every-frame c R doubles);
+    refused-form = λ j. (
+      (λ e. let b = refusal-breaks S v v-says (sym number-is ∙ e .0) in (b .0, subst (FirstBad S) (sym line-is ∙ e .1) (b .1))),
+      (λ h. (number-is ∙ ap (λ (w : Verdict). checkOf w .number) (v-breaks j (h .0) (h .1)), line-is ∙ ap (λ (w : Verdict). checkOf w .line) (v-breaks j (h .0) (h .1)))),
+    );
     refused-sticks = λ f e.
-        let p = refusal-sticks S R (verdict true S) (says S) f (sym (ap (λ (a : CheckAnswer). a .number) checked-is) ∙ e) in
-        (p .0, p .1, subst (λ (j : ℕ). SticksAt j (machine (p .0) R)) (sym (ap (λ (a : CheckAnswer). a .line) checked-is)) (p .2));
+        let p = refusal-sticks S R v v-says f (sym number-is ∙ e) in
+        (p .0, p .1, subst (λ (j : ℕ). SticksAt j (machine (p .0) R)) (sym line-is) (p .2));
   }

@@ -23,6 +23,7 @@ pub mod KindExact
 pub mod LinesExact
 pub mod TextBound
 pub mod ClaimHolds
+pub mod ConfinedHolds
 pub mod Starred
 pub mod AppliedLaws
 pub mod HeldLaws

@@ -11,7 +11,7 @@ use lib.Seq.{take-append-seam, length-take-le}
 use borrow.Author.Tests.{ne-eqb}
 use Rattle.sheets.specs.Text.{Word, ascii, _⌢_, lf, countLF}
 use Rattle.sheets.specs.Trees.{Num, Expr, Exprs, word-expr, num-expr, form-expr, nil, _▸_, Line, let-line, show-line, Head, wgs84, custom, Sheet}
-use Rattle.sheets.specs.Grammar.{Letter, Digit, Each, IsWord, IsNum, sign, point, printNum, print, printArgs, IsExpr, AreArgs, printHead, HeadParts, printLine, LineParts, printLines, AreLines, after, printSheet, IsSheet, Written, FirstBad, at-head, at-line, at-97, firstLines}
+use Rattle.sheets.specs.Grammar.{Letter, Digit, Each, IsWord, IsNum, sign, point, printNum, print, printArgs, IsExpr, AreArgs, printHead, HeadParts, printLine, LineParts, printLines, AreLines, after, printSheet, IsSheet, Written, FirstBad, at-head, at-line, at-97}
 use Rattle.sheets.specs.code.Reader.{got, readLine, readHead}
 use Rattle.sheets.proofs.Spans.{Spans, spans-drop, holds-at}
 use Rattle.sheets.proofs.CodeLaws.{word-chars}
@@ -115,6 +115,11 @@ pub sheet-lf : (c : Sheet) → IsSheet c → countLF (printSheet c) ≡ length (
 sheet-lf c h = count-append (printHead (c .head)) (printLines (c .lines)) ∙ omega (arith, one-count (printHead (c .head)) (head-lf (c .head) (h .0 .0)), lines-lf 0 (c .lines) (h .1))
 
 -- ---- the number of a line
+
+-- the bytes of the first k lines, so that line k + 1 begins after them
+unfoldable pub firstLines : ℕ → Sheet → List ℕ
+firstLines zero c = []
+firstLines (suc k) c = printHead (c .head) ⌢ printLines (take k (c .lines))
 
 lines-take : (p k : ℕ) (ls : List Line) → AreLines p ls → AreLines p (take k ls)
 lines-take p zero ls h = tt

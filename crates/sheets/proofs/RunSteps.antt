@@ -26,7 +26,7 @@ use Rattle.sheets.specs.code.Writing.{Written, lineIf, room}
 use Rattle.sheets.specs.code.Reader.{got, readWord, readLine, formed, readLines}
 use Rattle.sheets.specs.Machine.{Out, goes, stops, sticks, after, then as thenᵒ, meet, eval, State, rescoped, write, step, Ran, done, stopped, stuck, afterwards, steps}
 use Rattle.sheets.specs.declared.answers.RunAnswer.{RunAnswer}
-use Rattle.sheets.specs.Answers.{laid, ranAnswer, ranText}
+use Rattle.sheets.specs.Answers.{laid, Tells}
 use Rattle.sheets.specs.Claim.{Unstuck}
 use Rattle.sheets.proofs.Slices.{part, line-alone, word-is}
 use Rattle.sheets.proofs.Walks.{Step, walk-end, walk-line}
@@ -40,13 +40,10 @@ use Rattle.sheets.proofs.KnownLaws.{tabled-let}
 
 -- ---- the answer does not say which frames were made
 
-abbrev Answers : RunAnswer → List ℕ → List ℕ → Ran → Type 0
-Answers r out d q = (r ≡ ranAnswer q) × (out ≡ laid (ranText q) d)
-
-answers-after : (r : RunAnswer) (out d : List ℕ) (fs : List LocalFrame) (q : Ran) → Answers r out d q → Answers r out d (afterwards fs q)
-answers-after r out d fs (done hs s) a = a
-answers-after r out d fs (stopped hs c i s) a = a
-answers-after r out d fs (stuck hs i s) a = a
+tells-after : (r : RunAnswer) (out d : List ℕ) (fs : List LocalFrame) (q : Ran) → Tells q d r out → Tells (afterwards fs q) d r out
+tells-after r out d fs (done hs s) a = a
+tells-after r out d fs (stopped hs c i s) a = a
+tells-after r out d fs (stuck hs i s) a = a
 
 unstuck-after : (fs : List LocalFrame) (q : Ran) → Unstuck (afterwards fs q) → Unstuck q
 unstuck-after fs (done hs s) u = u
@@ -190,12 +187,12 @@ module _ (s : List ℕ) (e : Ellipsoid) (rs : List Float) (d : List ℕ) (at num
 
     -- what the rest answers from the state that the line left
     onwards : (q : RunAnswer) (out′ : List ℕ) (ls : List Line) (fs : List LocalFrame) (st st′ : State) (y : Line) (ys : List Line) → ls ≡ y ∷ ys → step number st y ≡ goes fs st′ → Unstuck (steps (numbered number ls) st)
-        → (Unstuck (steps (numbered (number + 1) ys) st′) → Answers q out′ d (steps (numbered (number + 1) ys) st′)) → Answers q out′ d (steps (numbered number ls) st)
+        → (Unstuck (steps (numbered (number + 1) ys) st′) → Tells (steps (numbered (number + 1) ys) st′) d q out′) → Tells (steps (numbered number ls) st) d q out′
     unfolding steps
     onwards q out′ ls hs st st′ y ys i es un f =
         let j : number + 1 ≡ suc number = omega arith in
         let un′ = unstuck-after hs (steps (numbered (suc number) ys) st′) (rw (i, es) at un) in
-        rw (i, es) (answers-after q out′ d hs (steps (numbered (suc number) ys) st′) (subst (λ k. Answers q out′ d (steps (numbered k ys) st′)) j (f (subst (λ k. Unstuck (steps (numbered k ys) st′)) (sym j) un′))))
+        rw (i, es) (tells-after q out′ d hs (steps (numbered (suc number) ys) st′) (subst (λ k. Tells (steps (numbered k ys) st′) d q out′) j (f (subst (λ k. Unstuck (steps (numbered k ys) st′)) (sym j) un′))))
 
     stuck-here : (fs : List LocalFrame) (st : State) (ls : List Line) (y : Line) (ys : List Line) → ls ≡ y ∷ ys → step number st y ≡ sticks fs → Unstuck (steps (numbered number ls) st) → ⊥
     unfolding steps
@@ -213,7 +210,7 @@ module _ (s : List ℕ) (e : Ellipsoid) (rs : List Float) (d : List ℕ) (at num
       where
         given : length d ≡ 24576 → (ls : List Line) (left p : ℕ) (el : readLines left number p s at ≡ formed ls) → number + left ≡ 97 → (st : State) → st .ellipsoid ≡ e → Tabled (st .scope .known) t n rs → written ≡ length (entryLines (st .entries))
             → written ≤ 223 * (number - 2) → out ≡ laid (entryLines (st .entries)) d → Unstuck (steps (numbered number ls) st) → (sp : Step s left number p at ls el) → sp .next ≡ to → (w : Word) (hs : List LocalFrame) → IsWord w → k ≡ codeOf w
-            → (b : Bool) → step number st (sp .line) ≡ after hs (rescoped st (giveIf b (givenOn number w v) (st .scope))) → Answers q out′ d (steps (numbered number ls) st)
+            → (b : Bool) → step number st (sp .line) ≡ after hs (rescoped st (giveIf b (givenOn number w v) (st .scope))) → Tells (steps (numbered number ls) st) d q out′
         given ed ls left p el cl st ee tb ew bound eo un sp en w hs iw ek true es = absurd (stuck-here (hs ++ []) st ls (sp .line) (sp .rest) (sp .all) es un)
         given ed ls left p el cl st ee tb ew bound eo un sp en w hs iw ek false es =
             onwards q out′ ls (hs ++ []) st _ (sp .line) (sp .rest) (sp .all) es un (λ un′.

@@ -19,7 +19,6 @@ use Rattle.sheets.specs.Refusals.{Checked}
 use Rattle.sheets.specs.Output.{hex, hexDigit, field, fields, fieldsText, outputLine}
 use Rattle.sheets.specs.Entries.{Entry, shown, entryLine, entryLines}
 use Rattle.sheets.specs.Machine.{Out, goes, stops, sticks, after, then, meet, eval, State, orSticks, rescoped, step, Ran, done, stopped, stuck, afterwards, onward, steps, start, machine}
-use Rattle.sheets.specs.Answers.{ranText}
 
 -- ---- an output line
 
@@ -110,6 +109,12 @@ longer-step i s (show-line w) t =
     omega arith)
 
 -- ---- a sheet
+
+-- the text of a run, however it came to its end
+abbrev pub ranText : Ran → List ℕ
+ranText (done fs s) = entryLines (s .entries)
+ranText (stopped fs c i s) = entryLines (s .entries)
+ranText (stuck fs i s) = entryLines (s .entries)
 
 afterwards-text : (fs : List LocalFrame) (r : Ran) → length (ranText (afterwards fs r)) ≡ length (ranText r)
 afterwards-text fs (done hs s) = refl

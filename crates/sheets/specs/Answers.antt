@@ -1,5 +1,6 @@
 -- The answers of the check and of the run over bytes and lent buffers: refusals 1 to 8 in checking order, and what each call leaves in its buffer.
-use mathlib.Core.List.{List, [], _∷_, _++_}
+use mathlib.Core.Path.{_≡_}
+use mathlib.Core.List.{List, _∷_, _++_}
 use mathlib.Core.Bool.{Bool, true, false, _&&_}
 use Prim.Native.Nat.{ℕ}
 use lib.Dec.{leb, eqb}
@@ -7,12 +8,12 @@ use lib.ListN.{length, drop}
 use lib.Ieee.{Float}
 use Rattle.numbers.specs.Ops.{num}
 use Rattle.sheets.specs.Trees.{Head, wgs84, custom, Sheet}
-use Rattle.sheets.specs.code.Reader.{Form, formed, badLine, readSheet}
+use Rattle.sheets.specs.Grammar.{Form, formed, badLine, Reads}
 use Rattle.sheets.specs.Limits.{numValue, between}
 use Rattle.sheets.specs.Refusals.{Refusal, size, lent, form, ellipsoid, fault, stop, refusalNumber}
 pub use Rattle.sheets.specs.declared.answers.CheckAnswer.{CheckAnswer}
 pub use Rattle.sheets.specs.declared.answers.RunAnswer.{RunAnswer}
-use Rattle.sheets.specs.Machine.{Ran, done, stopped, stuck, machine}
+use Rattle.sheets.specs.Machine.{State, Ran, done, stopped, stuck, machine}
 use Rattle.sheets.specs.Entries.{entryLines}
 use Rattle.sheets.specs.Check.{Walked, passes, refuses, walk}
 
@@ -44,17 +45,17 @@ abbrev pub ofForm : Form Sheet → Verdict
 ofForm (badLine j) = refused form j
 ofForm (formed c) = ofRange (ranged (c .head)) c
 
-abbrev pub ofLent : Bool → List ℕ → Verdict
-ofLent true s = ofForm (readSheet s)
-ofLent false s = refused lent 0
+abbrev pub ofLent : Bool → Form Sheet → Verdict
+ofLent true o = ofForm o
+ofLent false o = refused lent 0
 
-abbrev pub ofSize : Bool → Bool → List ℕ → Verdict
-ofSize true l s = ofLent l s
-ofSize false l s = refused size 0
+abbrev pub ofSize : Bool → Bool → Form Sheet → Verdict
+ofSize true l o = ofLent l o
+ofSize false l o = refused size 0
 
--- of a sheet, where the flag tells whether what is lent has its length
-unfoldable pub verdict : Bool → List ℕ → Verdict
-verdict l s = ofSize (sized s) l s
+-- on bytes of which the grammar makes o, where the flag tells whether what is lent has its length
+unfoldable pub verdict : Bool → List ℕ → Form Sheet → Verdict
+verdict l s o = ofSize (sized s) l o
 
 -- ---- the check, lent a kind list
 
@@ -73,39 +74,34 @@ kindsOfVerdict (refused r j) kinds = kinds
 abbrev pub lentKinds : List ℕ → Bool
 lentKinds kinds = eqb (length kinds) 96
 
--- what it answers, and the kind list afterwards
-unfoldable pub checkAnswer : List ℕ → List ℕ → CheckAnswer
-checkAnswer s kinds = checkOf (verdict (lentKinds kinds) s)
-
-unfoldable pub kindsAfter : List ℕ → List ℕ → List ℕ
-kindsAfter s kinds = kindsOfVerdict (verdict (lentKinds kinds) s) kinds
+-- What the check owes: of the bytes s, lent `kinds`, it answers r and leaves kinds′.
+pub record CheckOwes (s kinds : List ℕ) (r : CheckAnswer) (kinds′ : List ℕ) : Type 0 where
+  pub made : Form Sheet
+  pub grammar : Reads s made
+  pub answer : r ≡ checkOf (verdict (lentKinds kinds) s made)
+  pub left : kinds′ ≡ kindsOfVerdict (verdict (lentKinds kinds) s made) kinds
 
 -- ---- the run, lent readings and an output
 
--- the machine's number, line and count of bytes (a sheet that is admitted never sticks)
-abbrev pub ranAnswer : Ran → RunAnswer
-ranAnswer (done fs s) = record { number = 0; line = 0; written = length (entryLines (s .entries)) }
-ranAnswer (stopped fs r i s) = record { number = refusalNumber (stop r); line = i; written = length (entryLines (s .entries)) }
-ranAnswer (stuck fs i s) = record { number = 0; line = i; written = 0 }
+abbrev pub told : ℕ → ℕ → State → RunAnswer
+told n i s = record { number = n; line = i; written = length (entryLines (s .entries)) }
 
-abbrev pub ranText : Ran → List ℕ
-ranText (done fs s) = entryLines (s .entries)
-ranText (stopped fs r i s) = entryLines (s .entries)
-ranText (stuck fs i s) = []
+-- The machine came to this, lent `out`: the run answers its number, its line and its count of bytes, and leaves its text in the first bytes.
+-- A machine that sticks has no answer: an admitted sheet never sticks.
+abbrev pub Tells : Ran → List ℕ → RunAnswer → List ℕ → Type 0
+Tells (done fs s) out r out′ = (r ≡ told 0 0 s) × (out′ ≡ laid (entryLines (s .entries)) out)
+Tells (stopped fs k i s) out r out′ = (r ≡ told (refusalNumber (stop k)) i s) × (out′ ≡ laid (entryLines (s .entries)) out)
+Tells (stuck fs i s) out r out′ = ⊥
 
-abbrev pub runOf : Verdict → List Float → RunAnswer
-runOf (admitted c cs) rs = ranAnswer (machine c rs)
-runOf (refused r j) rs = record { number = refusalNumber r; line = j; written = 0 }
-
-abbrev pub textOf : Verdict → List Float → List ℕ
-textOf (admitted c cs) rs = ranText (machine c rs)
-textOf (refused r j) rs = []
+abbrev pub RunOf : Verdict → List Float → List ℕ → RunAnswer → List ℕ → Type 0
+RunOf (admitted c cs) rs out r out′ = Tells (machine c rs) out r out′
+RunOf (refused k j) rs out r out′ = (r ≡ record { number = refusalNumber k; line = j; written = 0 }) × (out′ ≡ out)
 
 abbrev pub lentRun : List Float → List ℕ → Bool
 lentRun rs out = eqb (length rs) 16 && eqb (length out) 24576
 
-unfoldable pub runAnswer : List ℕ → List Float → List ℕ → RunAnswer
-runAnswer s rs out = runOf (verdict (lentRun rs out) s) rs
-
-unfoldable pub outAfter : List ℕ → List Float → List ℕ → List ℕ
-outAfter s rs out = laid (textOf (verdict (lentRun rs out) s) rs) out
+-- What the run owes: of the bytes s over the readings rs, lent `out`, it answers r and leaves out′.
+pub record RunOwes (s : List ℕ) (rs : List Float) (out : List ℕ) (r : RunAnswer) (out′ : List ℕ) : Type 0 where
+  pub made : Form Sheet
+  pub grammar : Reads s made
+  pub answer : RunOf (verdict (lentRun rs out) s made) rs out r out′

@@ -1,17 +1,17 @@
--- What `check_and_run` owes: the answers of both calls by their definitions, and, where what is lent has its length, demand 3 of what they answered and wrote.
+-- What `check_and_run` owes: what each of the two calls owes; demand 1; and, where what is lent has its length, demand 3 of what they answered and wrote.
 use Prim.Native.Nat.{ℕ}
 use mathlib.Core.Path.{_≡_}
 use mathlib.Core.List.{List}
 use lib.ListN.{length}
 use lib.Ieee.{Float}
-use Rattle.sheets.specs.Answers.{checkAnswer, kindsAfter, runAnswer, outAfter}
+use Rattle.sheets.specs.Answers.{CheckOwes, RunOwes}
+use Rattle.sheets.specs.Confined.{Confined}
 use Rattle.sheets.specs.Claim.{Claim}
 use Rattle.sheets.specs.declared.check_and_run.BothAnswers.{BothAnswers}
 
 -- of the sheet S and the readings R: lent `kinds` and `out`, the calls answer r and leave kinds′ and out′
 pub record Both (S : List ℕ) (R : List Float) (kinds out : List ℕ) (r : BothAnswers) (kinds′ out′ : List ℕ) : Type 0 where
-  pub checked : r .checked ≡ checkAnswer S kinds
-  pub kinds-left : kinds′ ≡ kindsAfter S kinds
-  pub ran : r .ran ≡ runAnswer S R out
-  pub out-left : out′ ≡ outAfter S R out
+  pub checked : CheckOwes S kinds (r .checked) kinds′
+  pub ran : RunOwes S R out (r .ran) out′
+  pub confined : Confined S kinds (r .checked) kinds′ out (r .ran) out′
   pub claimed : length kinds ≡ 96 → length R ≡ 16 → length out ≡ 24576 → Claim S R kinds (r .checked) kinds′ out (r .ran) out′

@@ -16,14 +16,14 @@ use Rattle.frames.specs.Frames.{frameOrigin, destinationPosition, localVectorTo
 use Rattle.frames.specs.declared.frame.LocalFrame.{LocalFrame}
 use Rattle.sheets.specs.declared.value.Value.{Value}
 use Rattle.sheets.specs.Trees.{Sheet}
-use Rattle.sheets.specs.Grammar.{Written}
+use Rattle.sheets.specs.Grammar.{Written, FirstBad}
 use Rattle.sheets.specs.Names.{Given}
 use Rattle.sheets.specs.Kinds.{kindOf, kindCode}
 use Rattle.sheets.specs.Refusals.{Fault, refusalNumber, fault}
 use Rattle.sheets.specs.Machine.{Ran, done, stopped, stuck, machine}
 use Rattle.sheets.specs.Check.{readingKinds}
 use Rattle.sheets.specs.Admitted.{LinesFit}
-use Rattle.sheets.specs.Answers.{sized, ranged, laid, CheckAnswer, RunAnswer, ranAnswer, ranText}
+use Rattle.sheets.specs.Answers.{sized, ranged, laid, CheckAnswer, RunAnswer, Tells}
 
 -- 01's size, grammar, ellipsoid range, name rule and kind table admit S: it is the sheet c, and its lines from line 2 have these kind codes
 pub record Admits (S : List ℕ) (c : Sheet) (codes : List ℕ) : Type 0 where
@@ -75,19 +75,20 @@ pub record FrameHolds (f : LocalFrame) : Type 0 where
 
 -- ---- the claim
 
--- Of the sheet S and the sixteen readings R. The check, lent `kinds`, answers `checked` and leaves `kinds'`; the run, lent `out`, answers `ran` and leaves `out'`.
-pub record Claim (S : List ℕ) (R : List Float) (kinds : List ℕ) (checked : CheckAnswer) (kinds' : List ℕ) (out : List ℕ) (ran : RunAnswer) (out' : List ℕ) : Type 0 where
+-- Of the sheet S and the sixteen readings R. The check, lent `kinds`, answers `checked` and leaves `kinds′`; the run, lent `out`, answers `ran` and leaves `out′`.
+pub record Claim (S : List ℕ) (R : List Float) (kinds : List ℕ) (checked : CheckAnswer) (kinds′ : List ℕ) (out : List ℕ) (ran : RunAnswer) (out′ : List ℕ) : Type 0 where
   -- the check passes S exactly when 01 admits it; it then writes 255 for line 1 and a code for each further line
   pub exactly : (checked .number ≡ 0) ↔ ((c : Sheet) × (codes : List ℕ) × Admits S c codes)
-  pub codes-written : (c : Sheet) (codes : List ℕ) → Admits S c codes → kinds' ≡ laid (255 ∷ codes) kinds
+  pub codes-written : (c : Sheet) (codes : List ℕ) → Admits S c codes → kinds′ ≡ laid (255 ∷ codes) kinds
   -- then the machine never sticks on S over R
   pub never-sticks : (c : Sheet) (codes : List ℕ) → Admits S c codes → Unstuck (machine c R)
   -- and each name it gives has the kind that the check wrote on that line
-  pub names-have-kinds : (c : Sheet) (codes : List ℕ) → Admits S c codes → All (λ g. getD kinds' (g .line - 1) 0 ≡ kindCode (kindOf (g .value))) (namesGiven (machine c R))
+  pub names-have-kinds : (c : Sheet) (codes : List ℕ) → Admits S c codes → All (λ g. getD kinds′ (g .line - 1) 0 ≡ kindCode (kindOf (g .value))) (namesGiven (machine c R))
   -- the run then answers exactly the machine's number, line and byte count, and writes exactly its text
-  pub run-is-machine : (c : Sheet) (codes : List ℕ) → Admits S c codes → ran ≡ ranAnswer (machine c R)
-  pub text-is-machine's : (c : Sheet) (codes : List ℕ) → Admits S c codes → out' ≡ laid (ranText (machine c R)) out
+  pub run-is-machine : (c : Sheet) (codes : List ℕ) → Admits S c codes → Tells (machine c R) out ran out′
   -- each frame that the machine makes then holds
   pub frames-hold : (c : Sheet) (codes : List ℕ) → Admits S c codes → All FrameHolds (framesMade (machine c R))
+  -- the check answers 3 at line j exactly when the size of S is right and line j is the first that breaks the grammar
+  pub refused-form : (j : ℕ) → ((checked .number ≡ 3) × (checked .line ≡ j)) ↔ ((sized S ≡ true) × FirstBad S j)
   -- if the check refuses S for a name or a kind, the machine sticks at the line that the check answers, or 7 or 8 stopped it before
   pub refused-sticks : (f : Fault) → checked .number ≡ refusalNumber (fault f) → (c : Sheet) × Written S c × SticksAt (checked .line) (machine c R)

@@ -6,7 +6,7 @@ use mathlib.Core.Logic.{_⊎_}
 use mathlib.Core.List.{List, [], _∷_}
 use mathlib.Core.Bool.{Bool, true, false}
 use Prim.Native.Nat.{ℕ, zero, suc, _+_, _≤_}
-use lib.ListN.{length, take}
+use lib.ListN.{length}
 use Rattle.sheets.specs.Text.{Word, ascii, _⌢_, lf}
 use Rattle.sheets.specs.Trees.{Num, Expr, Exprs, word-expr, num-expr, form-expr, nil, _▸_, Line, let-line, show-line, Head, wgs84, custom, Sheet}
 
@@ -142,7 +142,11 @@ pub data FirstBad : List ℕ → ℕ → Type 0 where
   at-line : {s : List ℕ} (c : Sheet) (b : ℕ) (r : List ℕ) → s ≡ printSheet c ⌢ (b ∷ r) → IsSheet c → ¬ (LineBegins (afterAll 0 (c .lines)) (b ∷ r)) → FirstBad s (length (c .lines) + 2)
   at-97 : {s : List ℕ} (c : Sheet) (b : ℕ) (r : List ℕ) → s ≡ printSheet c ⌢ (b ∷ r) → IsSheet c → length (c .lines) ≡ 95 → FirstBad s 97
 
--- ---- Line numbers: the bytes of the first k lines, so that line k + 1 begins after them.
-unfoldable pub firstLines : ℕ → Sheet → List ℕ
-firstLines zero c = []
-firstLines (suc k) c = printHead (c .head) ⌢ printLines (take k (c .lines))
+-- ---- What the grammar makes of bytes: the sheet that they are, or the first line that breaks it; one of the two, and only one (proofs/FormLaws.antt).
+pub data Form (A : Type 0) : Type 0 where
+  formed : A → Form A
+  badLine : ℕ → Form A
+
+abbrev pub Reads : List ℕ → Form Sheet → Type 0
+Reads s (formed c) = Written s c
+Reads s (badLine j) = FirstBad s j

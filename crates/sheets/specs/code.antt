@@ -1,5 +1,5 @@
--- The reader that decides the grammar, and what the results of the inner functions mean. The contracts of those functions cite these definitions.
--- No part of them must be believed: Answers uses the reader, which is proved to read exactly what the grammar says (proofs/SheetLaws.antt), and nothing else of this folder is cited above it.
+-- A reader that decides the grammar, and what the results of the inner functions mean. The contracts of those functions cite these definitions.
+-- No part of them must be believed: nothing of this folder is cited above it, and the reader is proved to read exactly what the grammar says (proofs/SheetLaws.antt).
 pub mod Codes
 pub mod Reader
 pub mod Slots

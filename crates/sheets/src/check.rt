@@ -7,7 +7,7 @@ ghost use mathlib.Core.Bool.{_&&_};
 ghost use Prim.Native.Nat.{_≤_};
 ghost use lib.Dec.{leb};
 ghost use lib.ListN.{length, take};
-ghost use Rattle.sheets.specs.Answers.{laid, checkAnswer, kindsAfter};
+ghost use Rattle.sheets.specs.Answers.{laid, CheckOwes};
 
 // Refusal 1, of a sheet of n bytes.
 pub fn is_sized(n: usize) -> bool
@@ -30,7 +30,7 @@ fn put_codes(codes: [u8; 96], lines: usize, kinds: &mut [u8])
 
 // A passing check answers number 0 and writes one kind code a line, 255 for line 1; a refusing one writes nothing.
 pub fn check(sheet: &[u8], kinds: &mut [u8]) -> CheckAnswer
-    ensures { λ r. ⌜ (r ≡ checkAnswer (now (sheet .entry)) (now (kinds .entry))) × (now (kinds .exit) ≡ kindsAfter (now (sheet .entry)) (now (kinds .entry))) ⌝ }
+    ensures { λ r. ⌜ CheckOwes (now (sheet .entry)) (now (kinds .entry)) r (now (kinds .exit)) ⌝ }
 {
     let sized = is_sized(sheet.len());
     if !sized {

@@ -7,12 +7,11 @@ use crate::check::is_sized;
 use crate::first_line::FirstLine;
 use crate::first_line::first_line;
 use crate::lines_run::run_lines;
-ghost use mathlib.Core.Path.{_≡_};
-ghost use Rattle.sheets.specs.Answers.{runAnswer, outAfter};
+ghost use Rattle.sheets.specs.Answers.{RunOwes};
 
 // It writes exactly the shows' text, in the first bytes of the output, and answers their count.
 pub fn run(sheet: &[u8], readings: &[f64], out: &mut [u8]) -> RunAnswer
-    ensures { λ r. ⌜ (r ≡ runAnswer (now (sheet .entry)) (now (readings .entry)) (now (out .entry))) × (now (out .exit) ≡ outAfter (now (sheet .entry)) (now (readings .entry)) (now (out .entry))) ⌝ }
+    ensures { λ r. ⌜ RunOwes (now (sheet .entry)) (now (readings .entry)) (now (out .entry)) r (now (out .exit)) ⌝ }
 {
     let sized = is_sized(sheet.len());
     if !sized {

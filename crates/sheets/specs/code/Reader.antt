@@ -8,6 +8,7 @@ use lib.ListN.{length, getD}
 use Rattle.sheets.specs.Text.{Word, ascii}
 use Rattle.sheets.specs.Trees.{Num, Expr, Exprs, word-expr, num-expr, form-expr, nil, _▸_, Line, let-line, show-line, Head, wgs84, custom, Sheet}
 use Rattle.sheets.specs.Grammar.{allowed, after}
+pub use Rattle.sheets.specs.Grammar.{Form, formed, badLine}
 use Rattle.sheets.specs.code.Codes.{letter, wordChar, digit, codeFrom, codeOf}
 
 infixr 20 _then_ _thenᶠ_
@@ -150,11 +151,6 @@ unfoldable pub readHead : List ℕ → Got Head
 readHead s = limit 0 (opening s 0 then (λ k n. headOf s (codeOf k) n))
 
 -- ---- sheets
-
--- a sheet, or the number of the first line that is not of the grammar
-pub data Form (A : Type 0) : Type 0 where
-  formed : A → Form A
-  badLine : ℕ → Form A
 
 unfoldable pub _thenᶠ_ : {A B : Type 0} → Form A → (A → Form B) → Form B
 (formed x) thenᶠ k = k x

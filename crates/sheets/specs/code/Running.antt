@@ -23,7 +23,7 @@ use Rattle.sheets.specs.Table.{when}
 use Rattle.sheets.specs.Refusals.{stop, refusalNumber}
 use Rattle.sheets.specs.Machine.{Out, goes, stops, sticks, meet, eval, State, steps}
 use Rattle.sheets.specs.declared.answers.RunAnswer.{RunAnswer}
-use Rattle.sheets.specs.Answers.{laid, ranAnswer, ranText}
+use Rattle.sheets.specs.Answers.{laid, Tells}
 use Rattle.sheets.specs.Claim.{Unstuck}
 use Rattle.sheets.specs.code.Operands.{foundOf, Ready}
 use Rattle.sheets.specs.declared.operands.Found.{Found}
@@ -92,4 +92,4 @@ pub record Runs (s : List ℕ) (e : Ellipsoid) (rs : List Float) (d : List ℕ) 
   pub is : length d ≡ 24576 → (ls : List Line) (left p : ℕ) → readLines left number p s at ≡ formed ls → number + left ≡ 97
       → (st : State) → st .ellipsoid ≡ e → Tabled (st .scope .known) t n rs → written ≡ length (entryLines (st .entries)) → written ≤ 223 * (number - 2) → out ≡ laid (entryLines (st .entries)) d
       → Unstuck (steps (numbered number ls) st)
-      → (r ≡ ranAnswer (steps (numbered number ls) st)) × (out′ ≡ laid (ranText (steps (numbered number ls) st)) d)
+      → Tells (steps (numbered number ls) st) d r out′
