@@ -1,28 +1,50 @@
--- Every frame that is made is sound: its inverse matrix is the transpose of its direction matrix, bit for bit, and `Vec3::new` leaves its origin unchanged.
+-- Every frame that is made is sound: its inverse matrix is its direction matrix with rows and columns exchanged, bit for bit, and `Vec3::new` leaves its origin and the rows of both matrices unchanged, so that no entry of a matrix is a minus zero.
 -- In a sound frame of finite entries the zero vector leads to the origin, and the origin's vector is the zero vector, bit for bit. Assumes nothing.
-use mathlib.Core.Path.{_≡_, refl, sym, ap, _∙_}
+use mathlib.Core.Path.{_≡_, refl, sym, ap, _∙_, subst}
 use lib.Ieee as Ieee
 use Rattle.numbers.specs.Ops.{decimal, num}
-use Rattle.numbers.specs.Vec.{raw, zeroVec, vecAdd, vecMul}
-use Rattle.numbers.specs.Mat.{transpose, vecMulMat}
+use Rattle.numbers.specs.Vec.{raw, zeroVec, unitX, unitY, negUnitZ, vecAdd, vecMul}
+use Rattle.numbers.specs.Mat.{mat, exchanged, transpose, vecMulMat, matMul}
 use Rattle.numbers.specs.declared.angle.Angle.{Angle}
 use Rattle.numbers.specs.declared.vec3.Vec3.{Vec3}
-use Rattle.numbers.proofs.VecLaws.{SettledVec, SettledMat, cross-settled, orthogonalTo-settled, scale-settled, add-settled, transpose-twice, FiniteVec, FiniteMat, vecMulMat-zero, settled-sum, settled-difference}
-use Rattle.frames.specs.Positions.{geocentricFromMetres, geocentricFromVec3}
+use Rattle.numbers.specs.declared.mat33.Mat33.{Mat33}
+use Rattle.numbers.proofs.VecLaws.{SettledVec, SettledMat, cross-settled, orthogonalTo-settled, scale-settled, add-settled, matMul-settled, picked, transpose-exchanged, exchanged-settled, NoMinusZeros, settled-mat, FiniteVec, FiniteMat, vecMulMat-zero, settled-sum, settled-difference}
+use Rattle.frames.specs.Positions.{geocentricFromMetres, geocentricFromVec3, geocentricAsMetres}
 use Rattle.frames.specs.Ellipsoids.{geodeticToGeocentric, geocentricToGeodetic}
+use Rattle.frames.specs.Orientations.{isZUp, alignToZDown}
+use Rattle.frames.specs.Rotations.{zyx2r}
 use Rattle.frames.specs.Vectors.{localFromVec3, localAsMetres, localZero, bearing, elevation}
-use Rattle.frames.specs.Frames.{enuInverse, nedInverse, eastAt, newEnu, newNed, newBody, newWanderAzimuth, frameOrigin, localVectorTo, destinationPosition, enuFromGeocentric, enuFromGeodetic, nedFromGeocentric, nedFromGeodetic, bodyFromGeocentric, bodyFromGeodetic, wanderAzimuthFromGeocentric, wanderAzimuthFromGeodetic, lookingAt, lookingAtGeocentric, lookingAtGeodetic, rotateAroundZ, transform}
+use Rattle.frames.specs.Frames.{byInverse, byDirection, rotate, enuInverse, nedInverse, eastAt, newEnu, newNed, newBody, newWanderAzimuth, frameOrigin, localVectorTo, destinationPosition, enuFromGeocentric, enuFromGeodetic, nedFromGeocentric, nedFromGeodetic, bodyFromGeocentric, bodyFromGeodetic, wanderAzimuthFromGeocentric, wanderAzimuthFromGeodetic, lookingAt, lookingAtGeocentric, lookingAtGeodetic, rotateAroundZ, transform}
 use Rattle.frames.specs.declared.positions.GeocentricPosition.{GeocentricPosition}
 use Rattle.frames.specs.declared.positions.GeodeticPosition.{GeodeticPosition}
 use Rattle.frames.specs.declared.ellipsoid.Ellipsoid.{Ellipsoid}
 use Rattle.frames.specs.declared.orientation.Orientation.{Orientation}
+use Rattle.frames.specs.declared.orientation.Orientation.the-variants.{Enu, Ned, Body, Wan}
 use Rattle.frames.specs.declared.vector.LocalVector.{LocalVector}
 use Rattle.frames.specs.declared.frame.LocalFrame.{LocalFrame}
 use Rattle.frames.proofs.PositionLaws.{FitPosition, SettledPosition, geocentricAsMetres-settled, geodeticToGeocentric-fits, geocentricFromVec3-fits, geocentricToGeodetic-settled}
 
 pub record Sound (f : LocalFrame) : Type 0 where
-  pub inverse : f .«inv_rm» ≡ transpose (f .«dir_rm»)
+  pub inverse : f .«inv_rm» ≡ exchanged (f .«dir_rm»)
+  pub settled-dir : SettledMat (f .«dir_rm»)
   pub settled : SettledVec (f .origin)
+
+-- the inverse matrix is then also what the Rust's `transpose` makes of the direction matrix
+pub sound-transpose : (f : LocalFrame) → Sound f → f .«inv_rm» ≡ transpose (f .«dir_rm»)
+sound-transpose f s = s .inverse ∙ sym (transpose-exchanged (f .«dir_rm») (s .settled-dir))
+
+-- no entry of the direction matrix is a minus zero, and none of the inverse matrix
+pub no-minus-zero : (f : LocalFrame) → Sound f → NoMinusZeros (f .«dir_rm») × NoMinusZeros (f .«inv_rm»)
+no-minus-zero f s = (settled-mat (f .«dir_rm») (s .settled-dir), subst NoMinusZeros (sym (s .inverse)) (settled-mat (exchanged (f .«dir_rm»)) (exchanged-settled (f .«dir_rm») (s .settled-dir))))
+
+-- a frame made by its inverse matrix, and one by its direction matrix
+byInverse-sound : (o : Orientation) (v : Vec3) (m : Mat33) → SettledMat m → SettledVec v → Sound (byInverse o v m)
+byInverse-sound o v m s h =
+    let e = transpose-exchanged m s in
+    record { inverse = sym (ap (λ (n : Mat33). exchanged n) e); settled-dir = subst SettledMat (sym e) (exchanged-settled m s); settled = h }
+
+byDirection-sound : (o : Orientation) (v : Vec3) (m : Mat33) → SettledMat m → SettledVec v → Sound (byDirection o v m)
+byDirection-sound o v m s h = record { inverse = transpose-exchanged m s; settled-dir = s; settled = h }
 
 -- ---- the `new` of each kind
 
@@ -38,19 +60,19 @@ nedInverse-settled n =
 
 newEnu-sound : (d : GeodeticPosition) (g : GeocentricPosition) → SettledPosition d → FitPosition g → Sound (newEnu d g)
 unfolding newEnu
-newEnu-sound d g s h = record { inverse = sym (transpose-twice (enuInverse (d .hp .0)) (enuInverse-settled (d .hp .0) s)); settled = geocentricAsMetres-settled g h }
+newEnu-sound d g s h = byInverse-sound Enu (geocentricAsMetres g) (enuInverse (d .hp .0)) (enuInverse-settled (d .hp .0) s) (geocentricAsMetres-settled g h)
 
 newNed-sound : (d : GeodeticPosition) (g : GeocentricPosition) → FitPosition g → Sound (newNed d g)
 unfolding newNed
-newNed-sound d g h = record { inverse = sym (transpose-twice (nedInverse (d .hp .0)) (nedInverse-settled (d .hp .0))); settled = geocentricAsMetres-settled g h }
+newNed-sound d g h = byInverse-sound Ned (geocentricAsMetres g) (nedInverse (d .hp .0)) (nedInverse-settled (d .hp .0)) (geocentricAsMetres-settled g h)
 
 newBody-sound : (yaw pitch roll : Angle) (d : GeodeticPosition) (g : GeocentricPosition) → FitPosition g → Sound (newBody yaw pitch roll d g)
 unfolding newBody
-newBody-sound yaw pitch roll d g h = record { inverse = refl; settled = geocentricAsMetres-settled g h }
+newBody-sound yaw pitch roll d g h = byDirection-sound Body (geocentricAsMetres g) _ (matMul-settled (newNed d g .«dir_rm») (zyx2r yaw pitch roll)) (geocentricAsMetres-settled g h)
 
 newWanderAzimuth-sound : (azimuth : Angle) (d : GeodeticPosition) (g : GeocentricPosition) → FitPosition g → Sound (newWanderAzimuth azimuth d g)
 unfolding newWanderAzimuth
-newWanderAzimuth-sound azimuth d g h = record { inverse = refl; settled = geocentricAsMetres-settled g h }
+newWanderAzimuth-sound azimuth d g h = byDirection-sound Wan (geocentricAsMetres g) _ (matMul-settled (mat negUnitZ unitY unitX) _) (geocentricAsMetres-settled g h)
 
 lookingAt-sound : (d : GeodeticPosition) (g target : GeocentricPosition) (roll : Angle) → FitPosition g → Sound (lookingAt d g target roll)
 unfolding lookingAt
@@ -100,13 +122,17 @@ pub lookingAtGeodetic-sound : (d target : GeodeticPosition) (roll : Angle) (l : 
 unfolding lookingAtGeodetic
 lookingAtGeodetic-sound d target roll l = lookingAt-sound d (geodeticToGeocentric l d) (geodeticToGeocentric l target) roll (geodeticToGeocentric-fits l d)
 
+rotate-settled : (o : Orientation) (a b : Mat33) → SettledMat (rotate o a b)
+unfolding rotate
+rotate-settled o a b = picked SettledMat (isZUp o) _ _ (matMul-settled (matMul a b) alignToZDown) (matMul-settled a b)
+
 pub rotateAroundZ-sound : (f : LocalFrame) (a : Angle) → Sound f → Sound (rotateAroundZ f a)
 unfolding rotateAroundZ
-rotateAroundZ-sound f a s = record { inverse = refl; settled = s .settled }
+rotateAroundZ-sound f a s = byDirection-sound Wan (f .origin) _ (rotate-settled (f .orientation) (f .«dir_rm») _) (s .settled)
 
 pub transform-sound : (f : LocalFrame) (offset : LocalVector) (yaw pitch roll : Angle) → Sound (transform f offset yaw pitch roll)
 unfolding transform
-transform-sound f offset yaw pitch roll = record { inverse = refl; settled = add-settled (f .origin) _ }
+transform-sound f offset yaw pitch roll = byDirection-sound Body _ _ (rotate-settled (f .orientation) (f .«dir_rm») _) (add-settled (f .origin) _)
 
 -- ---- the positions that a frame gives are of doubles
 

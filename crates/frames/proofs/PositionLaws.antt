@@ -9,7 +9,7 @@ use Rattle.numbers.specs.declared.angle.Angle.{Angle}
 use Rattle.numbers.specs.declared.length.Length.{Length}
 use Rattle.numbers.specs.declared.vec3.Vec3.{Vec3}
 use Rattle.numbers.proofs.FitLaws.{Fits, sin-fits}
-use Rattle.numbers.proofs.VecLaws.{SettledVec, vec-settled, unitZ-settled, negUnitZ-settled, pick-settled, settled-fits}
+use Rattle.numbers.proofs.VecLaws.{SettledVec, vec-settled, unitZ-settled, negUnitZ-settled, picked, settled-fits}
 use Rattle.frames.specs.Positions.{geocentric, geocentricFromVec3, geocentricAsMetres, geodetic, nvector, latlongToNvector}
 use Rattle.frames.specs.Ellipsoids.{geodeticToGeocentric, geodeticBy, geocentricToGeodetic}
 use Rattle.frames.specs.declared.positions.GeocentricPosition.{GeocentricPosition}
@@ -46,8 +46,8 @@ pub latlongToNvector-settled : (lat lon : Angle) → SettledVec (latlongToNvecto
 unfolding latlongToNvector
 latlongToNvector-settled lat lon =
     let cl = cos (lat .0) in
-    pick-settled (angleEq lat quarterCircle) unitZ _ unitZ-settled
-    (pick-settled (angleEq lat negQuarterCircle) negUnitZ _ negUnitZ-settled
+    picked SettledVec (angleEq lat quarterCircle) unitZ _ unitZ-settled
+    (picked SettledVec (angleEq lat negQuarterCircle) negUnitZ _ negUnitZ-settled
     (vec-settled (cl ⊗ cos (lon .0)) (cl ⊗ sin (lon .0)) (sin (lat .0)) (mul-fits binary64 cl (cos (lon .0))) (mul-fits binary64 cl (sin (lon .0))) (sin-fits (lat .0))))
 
 pub latlong-settled : (lat lon : Angle) (h : Length) → SettledPosition (geodetic (nvector (latlongToNvector lat lon)) h)

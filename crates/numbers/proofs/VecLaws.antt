@@ -1,4 +1,4 @@
--- What `Vec3::new` leaves unchanged (`Settled`), which definitions give only such vectors, the transpose of a transpose, and a vector of zeros times a matrix of finite entries. Assumes nothing.
+-- What `Vec3::new` leaves unchanged (`Settled`), which definitions give only such vectors, that such a value is no minus zero, the transpose of a matrix of such values, and a vector of zeros times a matrix of finite entries. Assumes nothing.
 use mathlib.Core.Path.{_≡_, refl, sym, ap, _∙_, subst}
 use mathlib.Core.Bool.{Bool, true, false, _&&_}
 use lib.Dec.{T}
@@ -9,7 +9,7 @@ use lib.Ieee.Scale.{finite}
 use Rattle.numbers.specs.Ops.{_⊕_, _⊖_, _⊗_, _⊘_, decimal, num, pick}
 use Rattle.numbers.specs.Root.{sqrt}
 use Rattle.numbers.specs.Vec.{raw, vec, dotProd, zeroVec, unitZ, negUnitZ, unitBy, newUnit, crossProd, crossProdUnit, stableCrossProdUnit, orthogonal, orthogonalTo, vecEq, vecAdd, vecMul}
-use Rattle.numbers.specs.Mat.{mat, transpose, vecMulMat}
+use Rattle.numbers.specs.Mat.{mat, exchanged, transpose, vecMulMat, matMul}
 use Rattle.numbers.specs.declared.vec3.Vec3.{Vec3}
 use Rattle.numbers.specs.declared.mat33.Mat33.{Mat33}
 use Rattle.numbers.proofs.FloatLaws.{zeroF, add-zeros, add-zero-right, new-twice, new-plain, sub-self-zero, zero-times, plain}
@@ -51,15 +51,16 @@ pub negUnitZ-settled : SettledVec negUnitZ
 unfolding Ieee.add Ieee.neg decimal
 negUnitZ-settled = record { on-x = refl; on-y = refl; on-z = refl }
 
-pub pick-settled : (b : Bool) (v w : Vec3) → SettledVec v → SettledVec w → SettledVec (pick b v w)
-pick-settled true v w p q = p
-pick-settled false v w p q = q
+-- what holds of both holds of the one picked
+pub picked : {A : Type 0} (P : A → Type 0) (b : Bool) (v w : A) → P v → P w → P (pick b v w)
+picked P true v w p q = p
+picked P false v w p q = q
 
 pub newUnit-settled : (x y z : Float) → SettledVec (newUnit x y z)
 unfolding newUnit unitBy
 newUnit-settled x y z =
     let n = sqrt (x ⊗ x ⊕ y ⊗ y ⊕ z ⊗ z) in
-    pick-settled (Ieee.eq n (num 0)) zeroVec (vec (num 1 ⊘ n ⊗ x) (num 1 ⊘ n ⊗ y) (num 1 ⊘ n ⊗ z)) zeroVec-settled
+    picked SettledVec (Ieee.eq n (num 0)) zeroVec (vec (num 1 ⊘ n ⊗ x) (num 1 ⊘ n ⊗ y) (num 1 ⊘ n ⊗ z)) zeroVec-settled
     (vec-settled (num 1 ⊘ n ⊗ x) (num 1 ⊘ n ⊗ y) (num 1 ⊘ n ⊗ z) (mul-fits binary64 (num 1 ⊘ n) x) (mul-fits binary64 (num 1 ⊘ n) y) (mul-fits binary64 (num 1 ⊘ n) z))
 
 pub cross-settled : (a b : Vec3) → SettledVec (crossProd a b)
@@ -82,7 +83,7 @@ orthogonal-settled a = crossUnit-settled a _
 
 pub orthogonalTo-settled : (a b : Vec3) → SettledVec (orthogonalTo a b)
 unfolding orthogonalTo
-orthogonalTo-settled a b = pick-settled (vecEq (stableCrossProdUnit a b) zeroVec) (orthogonal a) (stableCrossProdUnit a b) (orthogonal-settled a) (stable-settled a b)
+orthogonalTo-settled a b = picked SettledVec (vecEq (stableCrossProdUnit a b) zeroVec) (orthogonal a) (stableCrossProdUnit a b) (orthogonal-settled a) (stable-settled a b)
 
 pub scale-settled : (a : Vec3) (k : Float) → SettledVec (vecMul a k)
 scale-settled a k = vec-settled (a .x ⊗ k) (a .y ⊗ k) (a .z ⊗ k) (mul-fits binary64 (a .x) k) (mul-fits binary64 (a .y) k) (mul-fits binary64 (a .z) k)
@@ -90,20 +91,33 @@ scale-settled a k = vec-settled (a .x ⊗ k) (a .y ⊗ k) (a .z ⊗ k) (mul-fits
 pub add-settled : (a b : Vec3) → SettledVec (vecAdd a b)
 add-settled a b = vec-settled (a .x ⊕ b .x) (a .y ⊕ b .y) (a .z ⊕ b .z) (add-fits binary64 (a .x) (b .x)) (add-fits binary64 (a .y) (b .y)) (add-fits binary64 (a .z) (b .z))
 
--- ---- the transpose, twice
+pub vecMulMat-settled : (v : Vec3) (m : Mat33) → SettledVec (vecMulMat v m)
+unfolding vecMulMat
+vecMulMat-settled v m = vec-settled (dotProd v (m .r0)) (dotProd v (m .r1)) (dotProd v (m .r2)) (add-fits binary64 _ _) (add-fits binary64 _ _) (add-fits binary64 _ _)
 
-abbrev twice : Float → Float
-twice x = num 0 ⊕ (num 0 ⊕ x)
+pub matMul-settled : (a b : Mat33) → SettledMat (matMul a b)
+unfolding matMul
+matMul-settled a b = record { on-r0 = vecMulMat-settled (a .r0) (transpose b); on-r1 = vecMulMat-settled (a .r1) (transpose b); on-r2 = vecMulMat-settled (a .r2) (transpose b) }
 
-settled-twice : (x : Float) → Settled x → twice x ≡ x
-settled-twice x p = ap (λ (y : Float). num 0 ⊕ y) p ∙ p
+-- ---- the transpose of a settled matrix
 
-same-vec : (v : Vec3) → SettledVec v → raw (twice (v .x)) (twice (v .y)) (twice (v .z)) ≡ v
-same-vec v s = λ i. raw (settled-twice (v .x) (s .on-x) i) (settled-twice (v .y) (s .on-y) i) (settled-twice (v .z) (s .on-z) i)
+new-same : (x y z : Float) → Settled x → Settled y → Settled z → vec x y z ≡ raw x y z
+new-same x y z p q r = λ i. raw (p i) (q i) (r i)
 
-pub transpose-twice : (m : Mat33) → SettledMat m → transpose (transpose m) ≡ m
+pub transpose-exchanged : (m : Mat33) → SettledMat m → transpose m ≡ exchanged m
 unfolding transpose
-transpose-twice m s = λ i. mat (same-vec (m .r0) (s .on-r0) i) (same-vec (m .r1) (s .on-r1) i) (same-vec (m .r2) (s .on-r2) i)
+transpose-exchanged m s =
+    λ i. mat
+    (new-same (m .r0 .x) (m .r1 .x) (m .r2 .x) (s .on-r0 .on-x) (s .on-r1 .on-x) (s .on-r2 .on-x) i)
+    (new-same (m .r0 .y) (m .r1 .y) (m .r2 .y) (s .on-r0 .on-y) (s .on-r1 .on-y) (s .on-r2 .on-y) i)
+    (new-same (m .r0 .z) (m .r1 .z) (m .r2 .z) (s .on-r0 .on-z) (s .on-r1 .on-z) (s .on-r2 .on-z) i)
+
+pub exchanged-settled : (m : Mat33) → SettledMat m → SettledMat (exchanged m)
+exchanged-settled m s = record {
+  on-r0 = record { on-x = s .on-r0 .on-x; on-y = s .on-r1 .on-x; on-z = s .on-r2 .on-x };
+  on-r1 = record { on-x = s .on-r0 .on-y; on-y = s .on-r1 .on-y; on-z = s .on-r2 .on-y };
+  on-r2 = record { on-x = s .on-r0 .on-z; on-y = s .on-r1 .on-z; on-z = s .on-r2 .on-z };
+}
 
 -- ---- zeros
 
@@ -134,11 +148,11 @@ vecMulMat-zero m h = λ i. raw (dot-zero (m .r0) (h .fin-r0) i) (dot-zero (m .r1
 pub settled-fits : (x : Float) → Settled x → T (fits binary64 x)
 settled-fits x s = subst (λ (y : Float). T (fits binary64 y)) s (add-fits binary64 (num 0) x)
 
+settled-plain : (x : Float) → Settled x → T (plain x)
+settled-plain x s = subst (λ (y : Float). T (plain y)) s (rw zero-is (new-plain binary64 x (settled-fits x s)))
+
 pub settled-right : (x : Float) → Settled x → x ⊕ num 0 ≡ x
-settled-right x s =
-    let t = settled-fits x s in
-    let p : T (plain x) = subst (λ (y : Float). T (plain y)) s (rw zero-is (new-plain binary64 x t)) in
-    rw zero-is (add-zero-right binary64 x t p)
+settled-right x s = rw zero-is (add-zero-right binary64 x (settled-fits x s) (settled-plain x s))
 
 -- 0.0 + (x + 0.0)
 pub settled-sum : (x : Float) → Settled x → num 0 ⊕ (x ⊕ num 0) ≡ x
@@ -152,3 +166,25 @@ zero-sum = refl
 pub settled-difference : (x : Float) → Settled x → T (finite x) → num 0 ⊕ ((num 0 ⊕ x) ⊖ x) ≡ num 0
 settled-difference x s t =
     ap (λ (y : Float). num 0 ⊕ (y ⊖ x)) s ∙ ap (λ (y : Float). num 0 ⊕ y) (sub-self-zero binary64 x t ∙ sym zero-is) ∙ zero-sum
+
+-- ---- a settled value is no minus zero
+
+abbrev NotMinusZero : Float → Type 0
+NotMinusZero x = x ≡ Ieee.neg (num 0) → ⊥
+
+abbrev NoneMinusZero : Vec3 → Type 0
+NoneMinusZero v = NotMinusZero (v .x) × NotMinusZero (v .y) × NotMinusZero (v .z)
+
+-- no entry is a minus zero
+abbrev pub NoMinusZeros : Mat33 → Type 0
+NoMinusZeros m = NoneMinusZero (m .r0) × NoneMinusZero (m .r1) × NoneMinusZero (m .r2)
+
+settled-entry : (x : Float) → Settled x → NotMinusZero x
+unfolding Ieee.neg decimal
+settled-entry x s e = subst (λ (y : Float). T (plain y)) e (settled-plain x s)
+
+settled-row : (v : Vec3) → SettledVec v → NoneMinusZero v
+settled-row v s = (settled-entry (v .x) (s .on-x), settled-entry (v .y) (s .on-y), settled-entry (v .z) (s .on-z))
+
+pub settled-mat : (m : Mat33) → SettledMat m → NoMinusZeros m
+settled-mat m s = (settled-row (m .r0) (s .on-r0), settled-row (m .r1) (s .on-r1), settled-row (m .r2) (s .on-r2))

@@ -1,6 +1,6 @@
 -- Matrices of three rows: `Mat33` of mat33.rs, and a vector times one.
 use mathlib.Core.Bool.{Bool, _&&_}
-use Rattle.numbers.specs.Vec.{vec, dotProd, vecEq, unitX, unitY, unitZ}
+use Rattle.numbers.specs.Vec.{raw, vec, dotProd, vecEq, unitX, unitY, unitZ}
 use Rattle.numbers.specs.declared.vec3.Vec3.{Vec3}
 use Rattle.numbers.specs.declared.mat33.Mat33.{Mat33}
 
@@ -11,6 +11,11 @@ mat a b c = record { r0 = a; r1 = b; r2 = c }
 abbrev pub identity : Mat33
 identity = mat unitX unitY unitZ
 
+-- Rows become columns and nothing is added: what a reader understands by the transpose, bit for bit.
+abbrev pub exchanged : Mat33 → Mat33
+exchanged m = mat (raw (m .r0 .x) (m .r1 .x) (m .r2 .x)) (raw (m .r0 .y) (m .r1 .y) (m .r2 .y)) (raw (m .r0 .z) (m .r1 .z) (m .r2 .z))
+
+-- the Rust's `transpose`, whose rows go through `Vec3::new`
 unfoldable pub transpose : Mat33 → Mat33
 transpose m = mat (vec (m .r0 .x) (m .r1 .x) (m .r2 .x)) (vec (m .r0 .y) (m .r1 .y) (m .r2 .y)) (vec (m .r0 .z) (m .r1 .z) (m .r2 .z))
 
