@@ -1,67 +1,20 @@
 -- The line that the check or the run answers is at most 97, so that 32 bits hold it. Assumes nothing.
-use Prim.Native.Nat.{ℕ, zero, suc, _+_, _≤_}
+use Prim.Native.Nat.{ℕ, suc, _+_, _≤_}
 use native.Mathlib.Omega.{arith}
 use mathlib.Core.Path.{_≡_}
 use mathlib.Core.Bool.{Bool, true, false}
 use mathlib.Core.List.{List, [], _∷_}
-use lib.Dec.{leb}
 use lib.ListN.{length}
 use lib.Ieee.{Float}
 use Rattle.frames.specs.declared.frame.LocalFrame.{LocalFrame}
-use Rattle.sheets.specs.Trees.{Line, Head, Sheet, numbered}
-use Rattle.sheets.specs.Grammar.{after}
-use Rattle.sheets.specs.code.Reader.{Got, none, got, Form, formed, badLine, _thenᶠ_, linesStep, readIn, readLines, sheetStep, readHead, readSheet}
+use Rattle.sheets.specs.Trees.{Line, Sheet, numbered}
+use Rattle.sheets.specs.Grammar.{at-head, at-line, at-97, Form, formed, badLine, Reads}
 use Rattle.sheets.specs.Refusals.{Checked, fine, bad}
 use Rattle.sheets.specs.Check.{Stateᶜ, stepᶜ, Walked, passes, refuses, onwardᶜ, stepsᶜ, startᶜ, walk}
 use Rattle.sheets.specs.Machine.{Out, goes, stops, sticks, State, step, Ran, done, stopped, stuck, afterwards, onward, steps, start, machine}
-use Rattle.sheets.specs.Answers.{sized, ranged, Verdict, admitted, refused, ofWalked, ofRange, ofForm, ofLent, ofSize, verdict, checkOf, lentKinds, checkAnswer, ranAnswer, runOf, lentRun, runAnswer}
+use Rattle.sheets.specs.Answers.{sized, ranged, Verdict, admitted, refused, ofWalked, ofRange, ofForm, ofSize, verdict, checkOf, lentKinds, CheckOwes, Tells, RunOf, lentRun, RunOwes}
 use Rattle.sheets.specs.declared.answers.CheckAnswer.{CheckAnswer}
 use Rattle.sheets.specs.declared.answers.RunAnswer.{RunAnswer}
-
--- ---- the reader: at most k lines from line i on, or a bad line of at most i + k
-
-Lines : ℕ → ℕ → Form (List Line) → Type 0
-Lines i k (formed ls) = length ls ≤ k
-Lines i k (badLine j) = j ≤ i + k
-
-lines-after : (i k : ℕ) (l : Line) (f : Form (List Line)) → Lines (i + 1) k f → Lines i (suc k) (f thenᶠ (λ ls. formed (l ∷ ls)))
-unfolding Lines _thenᶠ_
-lines-after i k l (formed ls) h = omega arith
-lines-after i k l (badLine j) h = omega arith
-
-lines-step : (i k : ℕ) (b : Bool) (o : Got Line) (rest : Line → ℕ → Form (List Line)) → ((l : Line) (n : ℕ) → Lines (i + 1) k (rest l n)) → Lines i (suc k) (linesStep b i o rest)
-unfolding Lines linesStep
-lines-step i k true o rest h = omega arith
-lines-step i k false none rest h = omega arith
-lines-step i k false (got l n) rest h = lines-after i k l (rest l n) (h l n)
-
-none-step : (i : ℕ) (b : Bool) (rest : Line → ℕ → Form (List Line)) → Lines i 0 (linesStep b i none rest)
-unfolding Lines linesStep
-none-step i true rest = omega arith
-none-step i false rest = omega arith
-
-lines-bound : (k i p : ℕ) (s : List ℕ) (at : ℕ) → Lines i k (readLines k i p s at)
-unfolding readLines
-lines-bound zero i p s at = none-step i (leb (length s) at) (λ l n. badLine i)
-lines-bound (suc k) i p s at = lines-step i k (leb (length s) at) (readIn p s at) (λ l. readLines k (i + 1) (after p l) s) (λ l n. lines-bound k (i + 1) (after p l) s n)
-
-Within : Form Sheet → Type 0
-Within (formed c) = length (c .lines) ≤ 95
-Within (badLine j) = j ≤ 97
-
-sheet-within : (h : Head) (f : Form (List Line)) → Lines 2 95 f → Within (f thenᶠ (λ ls. formed (record { head = h; lines = ls })))
-unfolding Within Lines _thenᶠ_
-sheet-within h (formed ls) w = w
-sheet-within h (badLine j) w = w
-
-step-within : (h : Got Head) (rest : ℕ → Form (List Line)) → ((n : ℕ) → Lines 2 95 (rest n)) → Within (sheetStep h rest)
-unfolding Within sheetStep
-step-within none rest w = omega arith
-step-within (got h n) rest w = sheet-within h (rest n) (w n)
-
-form-within : (s : List ℕ) → Within (readSheet s)
-unfolding readSheet
-form-within s = step-within (readHead s) (readLines 95 2 0 s) (λ n. lines-bound 95 2 0 s n)
 
 -- ---- the walk over kinds
 
@@ -120,45 +73,39 @@ unfolding Settled walk
 settled-range true c l = settled-walk c (walk c) l (walk-bound (c .lines) 2 97 startᶜ (omega arith))
 settled-range false c l = omega arith
 
-settled-form : (f : Form Sheet) → Within f → Settled (ofForm f)
-unfolding Settled Within
-settled-form (formed c) w = settled-range (ranged (c .head)) c w
-settled-form (badLine j) w = w
-
-settled-lent : (b : Bool) (s : List ℕ) → Settled (ofLent b s)
+settled-form : (s : List ℕ) (f : Form Sheet) → Reads s f → Settled (ofForm f)
 unfolding Settled
-settled-lent true s = settled-form (readSheet s) (form-within s)
-settled-lent false s = omega arith
+settled-form s (formed c) w = settled-range (ranged (c .head)) c (w .1 .2)
+settled-form s (badLine j) (at-head h) = omega arith
+settled-form s (badLine j) (at-line c b r e h w) = omega (arith, h .2)
+settled-form s (badLine j) (at-97 c b r e h n) = omega arith
 
-settled-size : (b l : Bool) (s : List ℕ) → Settled (ofSize b l s)
-unfolding Settled
-settled-size true l s = settled-lent l s
-settled-size false l s = omega arith
-
-settled : (l : Bool) (s : List ℕ) → Settled (verdict l s)
-unfolding verdict
-settled l s = settled-size (sized s) l s
+settled : (l : Bool) (s : List ℕ) (f : Form Sheet) → Reads s f → Settled (verdict l s f)
+unfolding Settled verdict
+settled l s f w = go (sized s) l
+  where
+    go : (b l : Bool) → Settled (ofSize b l f)
+    go true true = settled-form s f w
+    go true false = omega arith
+    go false l = omega arith
 
 check-of : (v : Verdict) → Settled v → checkOf v .line ≤ 97
 unfolding Settled
 check-of (admitted c cs) h = omega arith
 check-of (refused r j) h = h
 
-ran-line : (r : Ran) → Ended 97 r → ranAnswer r .line ≤ 97
+tells-line : (q : Ran) → Ended 97 q → (out out′ : List ℕ) (a : RunAnswer) → Tells q out a out′ → a .line ≤ 97
 unfolding Ended
-ran-line (done fs s) h = omega arith
-ran-line (stopped fs r i s) h = h
-ran-line (stuck fs i s) h = h
+tells-line (done fs s) h out out′ a (e, o) = rw e (omega arith)
+tells-line (stopped fs r i s) h out out′ a (e, o) = rw e h
 
-run-of : (v : Verdict) (rs : List Float) → Settled v → runOf v rs .line ≤ 97
+run-of : (v : Verdict) (rs : List Float) → Settled v → (out out′ : List ℕ) (a : RunAnswer) → RunOf v rs out a out′ → a .line ≤ 97
 unfolding Settled machine
-run-of (admitted c cs) rs h = ran-line (machine c rs) (steps-bound (c .lines) 2 97 (start (c .head) rs) (omega arith))
-run-of (refused r j) rs h = h
+run-of (admitted c cs) rs h out out′ a t = tells-line (machine c rs) (steps-bound (c .lines) 2 97 (start (c .head) rs) (omega arith)) out out′ a t
+run-of (refused r j) rs h out out′ a (e, o) = rw e h
 
-pub check-line : (s kinds : List ℕ) (a : CheckAnswer) → a ≡ checkAnswer s kinds → a .line ≤ 97
-unfolding checkAnswer
-check-line s kinds a e = rw e (check-of (verdict (lentKinds kinds) s) (settled (lentKinds kinds) s))
+pub check-line : (s kinds : List ℕ) (a : CheckAnswer) (kinds′ : List ℕ) → CheckOwes s kinds a kinds′ → a .line ≤ 97
+check-line s kinds a kinds′ h = rw (h .answer) (check-of (verdict (lentKinds kinds) s (h .made)) (settled (lentKinds kinds) s (h .made) (h .grammar)))
 
-pub run-line : (s : List ℕ) (rs : List Float) (out : List ℕ) (a : RunAnswer) → a ≡ runAnswer s rs out → a .line ≤ 97
-unfolding runAnswer
-run-line s rs out a e = rw e (run-of (verdict (lentRun rs out) s) rs (settled (lentRun rs out) s))
+pub run-line : (s : List ℕ) (rs : List Float) (out : List ℕ) (a : RunAnswer) (out′ : List ℕ) → RunOwes s rs out a out′ → a .line ≤ 97
+run-line s rs out a out′ h = run-of (verdict (lentRun rs out) s (h .made)) rs (settled (lentRun rs out) s (h .made) (h .grammar)) out out′ a (h .answer)

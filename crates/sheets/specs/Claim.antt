@@ -8,7 +8,7 @@ use lib.Dec.{T}
 use lib.ListN.{getD}
 use lib.Ieee.{Float}
 use lib.Ieee.Scale.{finite}
-use Rattle.numbers.specs.Mat.{transpose}
+use Rattle.numbers.specs.Mat.{exchanged}
 use Rattle.numbers.specs.declared.vec3.Vec3.{Vec3}
 use Rattle.numbers.specs.declared.mat33.Mat33.{Mat33}
 use Rattle.frames.specs.Vectors.{localZero}
@@ -67,9 +67,9 @@ FiniteVec3 v = T (finite (v .x)) × T (finite (v .y)) × T (finite (v .z))
 abbrev pub FiniteMat33 : Mat33 → Type 0
 FiniteMat33 m = FiniteVec3 (m .r0) × FiniteVec3 (m .r1) × FiniteVec3 (m .r2)
 
--- the inverse matrix is the transpose of the direction matrix; if the entries are finite, the zero vector leads from the frame to its origin, and the vector to its origin is zero
+-- the inverse matrix is the transpose of the direction matrix, bit for bit: rows and columns exchanged, nothing added; if the entries are finite, the zero vector leads from the frame to its origin, and the vector to its origin is zero
 pub record FrameHolds (f : LocalFrame) : Type 0 where
-  pub inverse : f .«inv_rm» ≡ transpose (f .«dir_rm»)
+  pub inverse : f .«inv_rm» ≡ exchanged (f .«dir_rm»)
   pub out : FiniteVec3 (f .origin) → FiniteMat33 (f .«dir_rm») → FiniteMat33 (f .«inv_rm») → destinationPosition f (localZero (f .orientation)) ≡ frameOrigin f
   pub back : FiniteVec3 (f .origin) → FiniteMat33 (f .«dir_rm») → FiniteMat33 (f .«inv_rm») → localVectorTo f (frameOrigin f) ≡ localZero (f .orientation)
 

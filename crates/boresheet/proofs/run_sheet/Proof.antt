@@ -11,10 +11,10 @@ run-requires : tie.Need-run-requires
 run-requires c κs = search needs
 
 array-share-prefix-out : tie.Need-array-share-prefix-out
-array-share-prefix-out c = run-counts _ _ _ _ _ (c .before .run .ensures .0) (c .before .run .ensures .1) .0
+array-share-prefix-out c = run-counts _ _ _ _ _ (c .before .run .ensures) .0
 
 slice-aggregate-write-all : tie.Need-slice-aggregate-write-all
-slice-aggregate-write-all c = run-counts _ _ _ _ _ (c .before .before .run .ensures .0) (c .before .before .run .ensures .1) .1
+slice-aggregate-write-all c = run-counts _ _ _ _ _ (c .before .before .run .ensures) .1
 
 write-all-requires : tie.Need-write-all-requires
 write-all-requires c κs = search needs

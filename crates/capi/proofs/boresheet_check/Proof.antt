@@ -1,6 +1,5 @@
 -- `capi::boresheet_check` meets its contract. Assumes nothing.
 use native.Mathlib.Omega.{arith}
-use mathlib.Core.Path.{ap}
 use borrow.Author.Needs.{needs}
 use Rattle.capi.proofs.LineBounds.{check-line}
 use Rattle.capi.proofs.boresheet_check.Statement.{statement}
@@ -10,7 +9,7 @@ check-requires : tie.Need-check-requires
 check-requires c κs = search needs
 
 cast-line : tie.Need-cast-line
-cast-line c = omega (arith, check-line _ _ _ (c .before .before .check .ensures .0))
+cast-line c = omega (arith, check-line _ _ _ _ (c .before .before .check .ensures))
 
 cast-result : tie.Need-cast-result
 cast-result c = search needs
@@ -19,9 +18,7 @@ same-length : tie.Need-same-length
 same-length c = c .before .before .check .kept .1 .0
 
 returns : tie.Need-returns
-returns c =
-    let e = c .before .before .check .ensures in
-    (ap (λ a. a .number) (e .0), ap (λ a. a .line) (e .0), e .1)
+returns c = c .before .before .check .ensures
 
 pub boresheet-check-spec : {M : Type 1} → statement M
 boresheet-check-spec = tie.close (tie.spec check-requires cast-line cast-result same-length returns)

@@ -1,6 +1,5 @@
 -- `capi::boresheet_run` meets its contract. Assumes nothing.
 use native.Mathlib.Omega.{arith}
-use mathlib.Core.Path.{ap}
 use borrow.Author.Needs.{needs}
 use Rattle.capi.proofs.LineBounds.{run-line}
 use Rattle.capi.proofs.boresheet_run.Statement.{statement}
@@ -10,7 +9,7 @@ run-requires : tie.Need-run-requires
 run-requires c κs = search needs
 
 cast-line : tie.Need-cast-line
-cast-line c = omega (arith, run-line _ _ _ _ (c .before .before .run .ensures .0))
+cast-line c = omega (arith, run-line _ _ _ _ _ (c .before .before .run .ensures))
 
 cast-result : tie.Need-cast-result
 cast-result c = search needs
@@ -19,9 +18,7 @@ same-length : tie.Need-same-length
 same-length c = c .before .before .run .kept .1 .1 .0
 
 returns : tie.Need-returns
-returns c =
-    let e = c .before .before .run .ensures in
-    (ap (λ a. a .number) (e .0), ap (λ a. a .line) (e .0), ap (λ a. a .written) (e .0), e .1)
+returns c = c .before .before .run .ensures
 
 pub boresheet-run-spec : {M : Type 1} → statement M
 boresheet-run-spec = tie.close (tie.spec run-requires cast-line cast-result same-length returns)
