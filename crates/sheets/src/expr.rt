@@ -43,7 +43,7 @@ pub fn expr(s: &[u8], at: usize, depth: usize) -> Read
 }
 
 // At most `left` arguments, each after a space, and the closing bracket.
-pub fn args(s: &[u8], at: usize, depth: usize, left: usize) -> Read
+fn args(s: &[u8], at: usize, depth: usize, left: usize) -> Read
     ensures { λ r. ⌜ r ≡ place (readArgs (readExpr depth (now (s .entry))) left (now (s .entry)) at) ⌝ }
 {
     let b = byte(s, at);

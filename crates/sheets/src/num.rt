@@ -35,7 +35,7 @@ pub enum DoubleRead {
 }
 
 // The digits at a place, at most `most`; `before` is the number that the digits before them made.
-pub fn digits(s: &[u8], at: usize, most: usize, before: u64) -> DigitsRead
+fn digits(s: &[u8], at: usize, most: usize, before: u64) -> DigitsRead
     requires { ⌜ (most ≤ 9) × (before < 1000000000) ⌝ }
     ensures { λ r. ⌜ r ≡ digitsRead before (chars digit most (now (s .entry)) at) at ⌝ }
 {
@@ -66,7 +66,7 @@ pub fn digits(s: &[u8], at: usize, most: usize, before: u64) -> DigitsRead
 }
 
 // What follows the sign, or the NUM where there is none: digits, and perhaps a point and digits behind it.
-pub fn num_whole(s: &[u8], minus: bool, at: usize) -> NumRead
+fn num_whole(s: &[u8], minus: bool, at: usize) -> NumRead
     ensures { λ r. ⌜ r ≡ counted (readWhole minus (now (s .entry)) at) ⌝ }
 {
     let d = digits(s, at, 9, 0);
@@ -107,7 +107,7 @@ pub fn num(s: &[u8], at: usize) -> NumRead
 }
 
 // 10 to the number of digits behind the point.
-pub fn tens(behind: usize) -> u64
+fn tens(behind: usize) -> u64
     requires { ⌜ behind ≤ 6 ⌝ }
     ensures { λ r. ⌜ r ≡ 10 ^ behind ⌝ }
 {
