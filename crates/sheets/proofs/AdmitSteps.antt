@@ -30,7 +30,7 @@ use Rattle.sheets.specs.declared.admit.LineKind.{LineKind}
 use Rattle.sheets.specs.declared.admit.Outcome.{Outcome}
 use Rattle.sheets.specs.declared.admit.Admission.{Admission}
 use Rattle.sheets.proofs.NewestLaws.{newest-none}
-use Rattle.sheets.proofs.PassedLaws.{stands-given, stands-shown}
+use Rattle.sheets.proofs.PassedLaws.{reading-is, stands-given, stands-shown}
 
 -- ---- the state after a line whose word has the kind k
 
@@ -79,7 +79,7 @@ pub record Midway (s : List ℕ) (at passed : ℕ) (words codes newest : List �
 
 pub midway-start : (s : List ℕ) (at : ℕ) (ls : List Line) → readLines 95 2 0 s at ≡ formed ls → Midway s at 0 (replicate 96 0) (replicate 96 255) (replicate 512 0) (stepsᶜ (numbered 2 ls) startᶜ)
 unfolding kindFrom
-midway-start s at ls e = record { lines = ls; phase = 0; state = startᶜ; goes = e; rest = refl; stands = record { few = omega arith; from = newest-none _; is = λ w hw. refl }; laid = refl }
+midway-start s at ls e = record { lines = ls; phase = 0; state = startᶜ; goes = e; rest = refl; stands = record { few = omega arith; from = newest-none _; is = reading-is }; laid = refl }
 
 module _ (s : List ℕ) (at passed : ℕ) (words codes newest : List ℕ) (o : Walked) (m : Midway s at passed words codes newest o) where
   pub walk-done : passed ≤ 95 → length codes ≡ 96 → length s ≤ at → Walks o (record { outcome = Outcome.Passes (passed + 1); codes = codes })

@@ -29,9 +29,8 @@ use Rattle.sheets.proofs.Inverse.{not-read, arg-read, form-read}
 use Rattle.sheets.proofs.Spans.{holds-at}
 use Rattle.sheets.proofs.ExprLaws.{ExprAt, expr-sound}
 use Rattle.sheets.proofs.KindRowLaws.{kind-small}
-use Rattle.sheets.specs.code.Newest.{newestOf}
 use Rattle.sheets.proofs.PassedLaws.{kind-newest}
-use Rattle.sheets.specs.code.Walking.{kindFrom, FoundKind, Standing, kindSaid, ExprHas, keySaid, ArgsHave}
+use Rattle.sheets.specs.code.Walking.{kindFrom, kindFound, Standing, kindSaid, ExprHas, keySaid, ArgsHave}
 use Rattle.sheets.specs.declared.kind_walk.KindRead.{KindRead}
 use Rattle.sheets.specs.declared.kind_walk.KeyRead.{KeyRead}
 
@@ -46,13 +45,10 @@ some-found none f e h = absurd (h e)
 some-found (some k) f e h = (k, refl, e)
 
 -- the kind code found for a word, where the lines passed stand for the known words
-pub found-kind : (words codes newest : List ℕ) (ps : Known Kind) → Standing words codes newest ps → (code f : ℕ) → FoundKind words codes newest code f
+pub found-kind : (words codes newest : List ℕ) (ps : Known Kind) → Standing words codes newest ps → (code f : ℕ) → f ≡ kindFound words codes newest code
     → (w : Word) → IsWord w → code ≡ codeOf w → f ≡ kindOr255 (lookup w ps)
 found-kind words codes newest ps (passed, st) code f hf w hw e =
-    hf .is (omega (arith, st .few, st .from .most code)) w hw (sym e)
-    ∙ ap (λ c. kindFrom words codes (newestOf newest c) w) e
-    ∙ kind-newest words codes newest passed (st .from) w
-    ∙ st .is w hw
+    hf ∙ kind-newest words codes newest passed (st .few) (st .from) code ∙ ap (kindFrom words codes passed) e ∙ st .is w hw
 
 -- a fault where there is no kind
 said-none : (x : Fault) (o : Option Kind) (f n : ℕ) → f ≡ kindOr255 o → f ≡ 255 → KindRead.Refused (refusalNumber (fault x)) ≡ kindSaid (known? x o) n
@@ -82,7 +78,7 @@ leaf-word s at depth w n e = go depth (holds-at (ExprAt s depth at) (readExpr de
 module _ (s : List ℕ) (at b : ℕ) (eb : b ≡ getD s at 0) (depth : ℕ) (ps : Known Kind) where
   module _ (h : b ≡ 40 → ⊥) (r : WordRead) (er : r ≡ coded (readWord s at)) where
     -- a word: f is the kind code found for it
-    module _ (code n : ℕ) (hr : r ≡ WordRead.Is code n) (words codes newest : List ℕ) (st : Standing words codes newest ps) (f : ℕ) (hf : FoundKind words codes newest code f) where
+    module _ (code n : ℕ) (hr : r ≡ WordRead.Is code n) (words codes newest : List ℕ) (st : Standing words codes newest ps) (f : ℕ) (hf : f ≡ kindFound words codes newest code) where
       found-is : (w : Word) → readExpr depth s at ≡ got (word-expr w) n → code ≡ codeOf w → f ≡ kindOr255 (lookup w ps)
       found-is w ew ec = found-kind words codes newest ps st code f hf w (leaf-word s at depth w n ew) ec
 

@@ -27,7 +27,7 @@ use Rattle.sheets.proofs.Inverse.{then-read}
 use Rattle.sheets.proofs.PieceSteps.{then-none, spaced-none, spaced-got, closing-none, closing-got}
 use Rattle.sheets.proofs.Viewed.{coded-none, coded-got}
 use Rattle.sheets.proofs.Slices.{word-is}
-use Rattle.sheets.specs.code.Walking.{FoundKind, Standing, kindSaid, ExprHas, unbarred, lineKind, lineSaid, LineHas, BarredWord}
+use Rattle.sheets.specs.code.Walking.{kindFound, Standing, kindSaid, ExprHas, unbarred, lineKind, lineSaid, LineHas, BarredWord}
 use Rattle.sheets.specs.declared.kind_walk.KindRead.{KindRead}
 use Rattle.sheets.specs.declared.admit.LineKind.{LineKind}
 use Rattle.sheets.proofs.KindSteps.{found-kind, none-found, some-found}
@@ -51,7 +51,7 @@ module _ (ps : Known Kind) (code : ℕ) (t : Bool) (ht : Opens code t) where
   pub barred-operator : t ≡ true → BarredWord code ps true
   barred-operator h = record { is = λ w hw e. ap (λ b. b || knows w ps) (sym h ∙ ht .is w hw e) }
 
-  module _ (h : t ≡ false) (words codes newest : List ℕ) (st : Standing words codes newest ps) (f : ℕ) (hf : FoundKind words codes newest code f) where
+  module _ (h : t ≡ false) (words codes newest : List ℕ) (st : Standing words codes newest ps) (f : ℕ) (hf : f ≡ kindFound words codes newest code) where
     by-lookup : (w : Word) → IsWord w → codeOf w ≡ code → isSome (lookup w ps) ≡ barred w ps
     by-lookup w hw e = knows-is w ps ∙ ap (λ b. b || knows w ps) (sym h ∙ ht .is w hw e)
 
@@ -121,7 +121,7 @@ module _ (s : List ℕ) (at : ℕ) (r : WordRead) (er : r ≡ coded (spaced (rea
         let (el, ez) = closes (show-line w) l s n m ek in
         (w, hw, ec, el, ez)
 
-    module _ (words codes newest : List ℕ) (st : Standing words codes newest ps) (f : ℕ) (hf : FoundKind words codes newest code f) where
+    module _ (words codes newest : List ℕ) (st : Standing words codes newest ps) (f : ℕ) (hf : f ≡ kindFound words codes newest code) where
       pub show-unknown : f ≡ 255 → LineHas (readShow s at) ps (LineKind.Refused 5)
       unfolding lineKind lineSaid
       show-unknown i = record {

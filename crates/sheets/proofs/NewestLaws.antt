@@ -9,9 +9,9 @@ use mathlib.Core.List.{List}
 use lib.Dec.{eqb, ltb}
 use lib.ListN.{length, set, getD, replicate, getD-replicate, length-replicate, length-set}
 use lib.Seq.{getD-set-same, getD-set-other}
-use borrow.Author.Tests.{eq-eqb, ne-eqb, eqb-true, eqb-false, ltb-true, ltb-false}
+use borrow.Author.Tests.{eq-eqb, ne-eqb, eqb-true, eqb-false, ltb-true, ltb-false, le-leb, lt-leb}
 use Rattle.sheets.specs.Table.{when}
-use Rattle.sheets.specs.code.Newest.{newestOf, Newest, placeFrom, Placed}
+use Rattle.sheets.specs.code.Newest.{newestOf, searchFrom, Newest, placeFrom, Placed}
 
 small : (c : ℕ) → c % 512 < 512
 small c = mod-lt c (omega arith)
@@ -71,11 +71,24 @@ module _ (words : List ℕ) (n : ℕ) (newest : List ℕ) (h : Newest words n ne
       go (suc k) low high = by k low high (λ l. go k l (omega arith)) (ltb k (newestOf newest c)) refl
 
   -- so the word's place is found from there
+  pub search-is : n ≤ 95 → (c : ℕ) → searchFrom newest c ≡ newestOf newest c
+  unfolding searchFrom
+  search-is few c = rw (le-leb (newestOf newest c) 95 (omega (arith, h .most c))) refl
+
   pub place-is : n ≤ 95 → (c j : ℕ) → Placed words newest c j → j ≡ placeFrom words n c
   unfolding placeFrom
-  place-is few c j p = p .is (omega (arith, h .most c)) ∙ from-newest c (λ k. placeFrom words k c) (λ k q. rw (ne-eqb (getD words (suc k) 0) c q) refl)
+  place-is few c j p = p .is ∙ ap (λ k. placeFrom words k c) (search-is few c) ∙ from-newest c (λ k. placeFrom words k c) (λ k q. rw (ne-eqb (getD words (suc k) 0) c q) refl)
 
 -- ---- the search, a place at a time
+
+module _ (words newest : List ℕ) (c i : ℕ) (e : i ≡ newestOf newest c) where
+  pub search-none : 95 < i → 0 ≡ placeFrom words (searchFrom newest c) c
+  unfolding searchFrom placeFrom
+  search-none h = rw (← e, lt-leb i 95 h) refl
+
+  pub search-some : i ≤ 95 → placeFrom words i c ≡ placeFrom words (searchFrom newest c) c
+  unfolding searchFrom
+  search-some h = rw (← e, le-leb i 95 h) refl
 
 module _ (words : List ℕ) (c : ℕ) where
   pub place-here : (i : ℕ) → 0 < i → getD words i 0 ≡ c → i ≡ placeFrom words i c

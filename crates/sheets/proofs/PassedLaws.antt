@@ -10,7 +10,7 @@ use lib.ListN.{length, set, getD}
 use lib.Seq.{getD-set-same, getD-set-other}
 use mir.Facts.{and-yes}
 use mir.Val.{hasKey}
-use borrow.Author.Tests.{eq-eqb, ne-eqb, eqb-true, eqb-false, le-leb, lt-leb}
+use borrow.Author.Tests.{eq-eqb, ne-eqb, eqb-true, eqb-false, leb-true, le-leb, lt-leb}
 use Rattle.sheets.specs.Text.{Word}
 use Rattle.sheets.specs.Grammar.{IsWord}
 use Rattle.sheets.specs.code.Codes.{wordChar, codeFrom, codeOf}
@@ -23,9 +23,9 @@ use Rattle.sheets.specs.Check.{readingKinds}
 use Rattle.sheets.proofs.ReadingLaws.{codesOf, AreWords, readingCodes, readings-are}
 use Rattle.sheets.proofs.KindExact.{same-word}
 use Rattle.sheets.proofs.KindRowLaws.{words-agree, every, of-every}
-use Rattle.sheets.specs.code.Newest.{newestOf, Newest, placeFrom}
-use Rattle.sheets.proofs.NewestLaws.{newest-more, from-newest, by-place}
-use Rattle.sheets.specs.code.Walking.{kindFrom, ReadingKind, Stands}
+use Rattle.sheets.specs.code.Newest.{Newest, placeFrom}
+use Rattle.sheets.proofs.NewestLaws.{newest-more, search-is, from-newest, by-place}
+use Rattle.sheets.specs.code.Walking.{readingKind, kindFrom, kindFound, Stands}
 
 -- ---- the readings
 
@@ -37,9 +37,6 @@ by-codes (v ∷ vs) h w hw = rw (words-agree v w (h .0) hw) (go (sameWord w v) (
         → when (b || hasKey (codesOf vs) (codeOf w)) 0 255 ≡ kindOr255 (orElse b number (lookup w (map (λ v. givenOn 0 v number) vs)))
     go true e = refl
     go false e = e
-
-of-reading : (c r : ℕ) (b : Bool) → hasKey readingCodes c ≡ b → r ≡ when b 0 255 → ReadingKind c r
-of-reading c r b e h = record { is = λ w hw i. h ∙ ap (λ x. when x 0 255) (sym e) ∙ ap (λ x. when (hasKey readingCodes x) 0 255) (sym i) ∙ by-codes readingWords readings-are w hw }
 
 yes-is : (b : Bool) → T b → b ≡ true
 yes-is true t = refl
@@ -60,18 +57,14 @@ below f (suc n) t i h =
     go true e p k = subst (λ j. T (f j)) (eqb-true n i e) p
     go false e p k = k (omega (arith, eqb-false n i e))
 
--- the codes of r0 to r9, and those of r10 to r15
-pub reading-low : (c : ℕ) → 693 ≤ c → c ≤ 702 → ReadingKind c 0
-unfolding wordChar codeFrom
-reading-low c l h =
-    let e : 693 + (c - 693) ≡ c = omega arith in
-    of-reading c 0 true (yes-is _ (subst (λ x. T (hasKey readingCodes x)) e (below (λ i. hasKey readingCodes (693 + i)) 10 tt (c - 693) (omega arith)))) refl
-
-pub reading-high : (c : ℕ) → 25705 ≤ c → c ≤ 25710 → ReadingKind c 0
-unfolding wordChar codeFrom
-reading-high c l h =
-    let e : 25705 + (c - 25705) ≡ c = omega arith in
-    of-reading c 0 true (yes-is _ (subst (λ x. T (hasKey readingCodes x)) e (below (λ i. hasKey readingCodes (25705 + i)) 6 tt (c - 25705) (omega arith)))) refl
+-- numbers that follow each other, all among the codes
+run : (ks : List ℕ) (start end n : ℕ) → end + 1 ≡ start + n → T (allBelow (λ i. hasKey ks (start + i)) n) → (c : ℕ) → T (leb start c && leb c end) → hasKey ks c ≡ true
+run ks start end n len t c h =
+    let (low, high) = and-yes (leb start c) (leb c end) h in
+    let a = leb-true start c (yes-is _ low) in
+    let b = leb-true c end (yes-is _ high) in
+    let e : start + (c - start) ≡ c = omega arith in
+    yes-is _ (subst (λ x. T (hasKey ks x)) e (below (λ i. hasKey ks (start + i)) n t (c - start) (omega arith)))
 
 abbrev inRanges : ℕ → Bool
 inRanges c = (leb 693 c && leb c 702) || (leb 25705 c && leb c 25710)
@@ -83,59 +76,82 @@ in-ranges ks t c h = go (hasKey ks c) refl
     go true e = absurd (subst T h (of-every inRanges ks t c (subst T (sym e) tt)))
     go false e = e
 
-reading-not : (c : ℕ) → inRanges c ≡ false → ReadingKind c 255
+-- the codes of r0 to r9, and those of r10 to r15
+ranges-are : (c : ℕ) → inRanges c ≡ hasKey readingCodes c
 unfolding wordChar codeFrom
-reading-not c h = of-reading c 255 false (in-ranges readingCodes tt c h) refl
+ranges-are c = go (leb 693 c && leb c 702) refl (leb 25705 c && leb c 25710) refl
+  where
+    go : (a : Bool) → (leb 693 c && leb c 702) ≡ a → (b : Bool) → (leb 25705 c && leb c 25710) ≡ b → (a || b) ≡ hasKey readingCodes c
+    go true e b f = sym (run readingCodes 693 702 10 refl tt c (subst T (sym e) tt))
+    go false e true f = sym (run readingCodes 25705 25710 6 refl tt c (subst T (sym f) tt))
+    go false e false f = sym (in-ranges readingCodes tt c (rw (e, f) refl))
 
-pub reading-before : (c : ℕ) → c < 693 → ReadingKind c 255
-reading-before c h = reading-not c (rw (lt-leb 693 c h, lt-leb 25705 c (omega arith)) refl)
+pub reading-is : (w : Word) → IsWord w → readingKind (codeOf w) ≡ kindOr255 (lookup w readingKinds)
+unfolding readingKind
+reading-is w hw = ap (λ b. when b 0 255) (ranges-are (codeOf w)) ∙ by-codes readingWords readings-are w hw
 
-pub reading-between : (c : ℕ) → 702 < c → c < 25705 → ReadingKind c 255
-reading-between c l h = reading-not c (rw (le-leb 693 c (omega arith), lt-leb c 702 l, lt-leb 25705 c h) refl)
+module _ (c : ℕ) where
+  pub reading-before : c < 693 → 255 ≡ readingKind c
+  unfolding readingKind
+  reading-before h = rw (lt-leb 693 c h, lt-leb 25705 c (omega arith)) refl
 
-pub reading-behind : (c : ℕ) → 25710 < c → ReadingKind c 255
-reading-behind c h = reading-not c (rw (le-leb 693 c (omega arith), lt-leb c 702 (omega arith), le-leb 25705 c (omega arith), lt-leb c 25710 h) refl)
+  pub reading-low : 693 ≤ c → c ≤ 702 → 0 ≡ readingKind c
+  unfolding readingKind
+  reading-low l h = rw (le-leb 693 c l, le-leb c 702 h) refl
+
+  pub reading-between : 702 < c → c < 25705 → 255 ≡ readingKind c
+  unfolding readingKind
+  reading-between l h = rw (le-leb 693 c (omega arith), lt-leb c 702 l, lt-leb 25705 c h) refl
+
+  pub reading-high : 25705 ≤ c → c ≤ 25710 → 0 ≡ readingKind c
+  unfolding readingKind
+  reading-high l h = rw (le-leb 693 c (omega arith), lt-leb c 702 (omega arith), le-leb 25705 c l, le-leb c 25710 h) refl
+
+  pub reading-behind : 25710 < c → 255 ≡ readingKind c
+  unfolding readingKind
+  reading-behind h = rw (le-leb 693 c (omega arith), lt-leb c 702 (omega arith), le-leb 25705 c (omega arith), lt-leb c 25710 h) refl
 
 -- ---- a word's kind by its place: that of its line, or a reading's
 
-module _ (words codes : List ℕ) (w : Word) (n : ℕ) (c j : ℕ) (e : j ≡ placeFrom words n c) (i : codeOf w ≡ c) where
-  at-place : kindFrom words codes n w ≡ when (eqb j 0) (kindOr255 (lookup w readingKinds)) (getD codes j 0)
+module _ (words codes : List ℕ) (n : ℕ) (c j : ℕ) (e : j ≡ placeFrom words n c) where
+  at-place : kindFrom words codes n c ≡ when (eqb j 0) (readingKind c) (getD codes j 0)
   unfolding kindFrom
-  at-place = by-place words (codeOf w) (λ k. getD codes k 0) (λ k. kindFrom words codes k w) n (λ k l. refl) ∙ ap (λ k. when (eqb k 0) (kindOr255 (lookup w readingKinds)) (getD codes k 0)) (ap (placeFrom words n) i ∙ sym e)
+  at-place = by-place words c (λ k. getD codes k 0) (λ k. kindFrom words codes k c) n (λ k l. refl) ∙ ap (λ k. when (eqb k 0) (readingKind c) (getD codes k 0)) (sym e)
 
-  pub kind-reading : j ≡ 0 → kindOr255 (lookup w readingKinds) ≡ kindFrom words codes n w
+  pub kind-reading : j ≡ 0 → readingKind c ≡ kindFrom words codes n c
   kind-reading h = sym (at-place ∙ rw (eq-eqb j 0 h) refl)
 
-  pub kind-there : (j ≡ 0 → ⊥) → getD codes j 0 ≡ kindFrom words codes n w
+  pub kind-there : (j ≡ 0 → ⊥) → getD codes j 0 ≡ kindFrom words codes n c
   kind-there h = sym (at-place ∙ rw (ne-eqb j 0 h) refl)
 
 -- the search may begin at the newest place for the word's remainder
-pub kind-newest : (words codes newest : List ℕ) (n : ℕ) → Newest words n newest → (w : Word) → kindFrom words codes (newestOf newest (codeOf w)) w ≡ kindFrom words codes n w
-unfolding kindFrom
-kind-newest words codes newest n h w =
-    from-newest words n newest h (codeOf w) (λ k. kindFrom words codes k w) (λ k e. rw (ne-eqb (getD words (suc k) 0) (codeOf w) e) refl)
+pub kind-newest : (words codes newest : List ℕ) (n : ℕ) → n ≤ 95 → Newest words n newest → (c : ℕ) → kindFound words codes newest c ≡ kindFrom words codes n c
+unfolding kindFound kindFrom
+kind-newest words codes newest n few h c =
+    ap (λ k. kindFrom words codes k c) (search-is words n newest h few c)
+    ∙ from-newest words n newest h c (λ k. kindFrom words codes k c) (λ k e. rw (ne-eqb (getD words (suc k) 0) c e) refl)
 
 -- ---- one line more
 
 -- the lines before the place i stay as they are
-kept : (words codes : List ℕ) (i a b n : ℕ) → n < i → (w : Word) → kindFrom (set words i a) (set codes i b) n w ≡ kindFrom words codes n w
+kept : (words codes : List ℕ) (i a b n : ℕ) → n < i → (c : ℕ) → kindFrom (set words i a) (set codes i b) n c ≡ kindFrom words codes n c
 unfolding kindFrom
-kept words codes i a b zero h w = refl
-kept words codes i a b (suc n) h w =
-    rw (getD-set-other words i (suc n) a 0 (omega arith), getD-set-other codes i (suc n) b 0 (omega arith), kept words codes i a b n (omega arith) w) refl
+kept words codes i a b zero h c = refl
+kept words codes i a b (suc n) h c =
+    rw (getD-set-other words i (suc n) a 0 (omega arith), getD-set-other codes i (suc n) b 0 (omega arith), kept words codes i a b n (omega arith) c) refl
 
 module _ (words codes newest : List ℕ) (passed : ℕ) (ps : Known Kind) (st : Stands words codes newest passed ps) (lw : length words ≡ 96) (lc : length codes ≡ 96) (room : passed < 95) (w : Word) (hw : IsWord w) (k : Kind) where
   one-more : (v : Word) → IsWord v
-      → kindFrom (set words (passed + 1) (codeOf w)) (set codes (passed + 1) (kindCode k)) (passed + 1) v ≡ when (sameWord v w) (kindCode k) (kindOr255 (lookup v ps))
+      → kindFrom (set words (passed + 1) (codeOf w)) (set codes (passed + 1) (kindCode k)) (passed + 1) (codeOf v) ≡ when (sameWord v w) (kindCode k) (kindOr255 (lookup v ps))
   unfolding kindFrom
   one-more v hv = go (passed + 1) (omega arith) (omega arith)
     where
-      go : (i : ℕ) → i ≡ suc passed → i < 96 → kindFrom (set words i (codeOf w)) (set codes i (kindCode k)) i v ≡ when (sameWord v w) (kindCode k) (kindOr255 (lookup v ps))
+      go : (i : ℕ) → i ≡ suc passed → i < 96 → kindFrom (set words i (codeOf w)) (set codes i (kindCode k)) i (codeOf v) ≡ when (sameWord v w) (kindCode k) (kindOr255 (lookup v ps))
       go zero e h = absurd (omega arith)
       go (suc n) e h =
           let en : n ≡ passed = omega arith in
           rw (getD-set-same words (suc n) (codeOf w) 0 (omega arith), getD-set-same codes (suc n) (kindCode k) 0 (omega arith), words-agree w v hw hv)
-          (ap (when (sameWord v w) (kindCode k)) (kept words codes (suc n) (codeOf w) (kindCode k) n (omega arith) v ∙ ap (λ m. kindFrom words codes m v) en ∙ st .is v hv))
+          (ap (when (sameWord v w) (kindCode k)) (kept words codes (suc n) (codeOf w) (kindCode k) n (omega arith) (codeOf v) ∙ ap (λ m. kindFrom words codes m (codeOf v)) en ∙ st .is v hv))
 
   from-more : Newest (set words (passed + 1) (codeOf w)) (passed + 1) (set newest (codeOf w % 512) (passed + 1))
   from-more = newest-more words passed newest (st .from) (omega arith) (codeOf w)

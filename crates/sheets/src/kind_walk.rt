@@ -9,7 +9,8 @@ use crate::kinds::kind_of_row;
 use crate::newest::word_place;
 use crate::num::NumRead;
 use crate::num::num;
-ghost use Rattle.sheets.specs.code.Walking.{ReadingKind, FoundKind, ForKnown, LeafHas, ExprHas, ArgsHave};
+ghost use mathlib.Core.Path.{_≡_};
+ghost use Rattle.sheets.specs.code.Walking.{readingKind, kindFound, ForKnown, LeafHas, ExprHas, ArgsHave};
 
 // The code of a kind and the place after the expression, or the number of the refusal.
 pub enum KindRead {
@@ -25,7 +26,7 @@ pub enum KeyRead {
 
 // A reading is n; 255 for a word that is no reading. The codes of r0 to r9 follow each other, and so do those of r10 to r15.
 fn reading_kind(code: u64) -> u8
-    ensures { λ r. ⌜ ReadingKind code r ⌝ }
+    ensures { λ r. ⌜ r ≡ readingKind code ⌝ }
 {
     if code < 693 {
         return 255;
@@ -44,7 +45,7 @@ fn reading_kind(code: u64) -> u8
 
 // The kind of the word with this code, 255 where it is unknown.
 pub fn find_kind(words: &[u64; 96], codes: &[u8; 96], newest: &[u8; 512], code: u64) -> u8
-    ensures { λ r. ⌜ FoundKind (now (words .entry)) (now (codes .entry)) (now (newest .entry)) code r ⌝ }
+    ensures { λ r. ⌜ r ≡ kindFound (now (words .entry)) (now (codes .entry)) (now (newest .entry)) code ⌝ }
 {
     let i = word_place(words, newest, code);
     if i == 0 {

@@ -3,13 +3,17 @@
 use Prim.Native.Nat.{ℕ, zero, suc, _%_, _<_, _≤_}
 use mathlib.Core.Path.{_≡_}
 use mathlib.Core.List.{List}
-use lib.Dec.{eqb}
+use lib.Dec.{eqb, leb}
 use lib.ListN.{length, getD}
 use Rattle.sheets.specs.Table.{when}
 
--- where the search for the word with this code begins
+-- the newest place of a word that may be the one with this code
 abbrev pub newestOf : List ℕ → ℕ → ℕ
 newestOf newest c = getD newest (c % 512) 0
+
+-- where the search for it begins: at none, 0, where there is no such place among the 96
+unfoldable pub searchFrom : List ℕ → ℕ → ℕ
+searchFrom newest c = when (leb (newestOf newest c) 95) (newestOf newest c) 0
 
 -- for the first n words: for each remainder a place, at most n, behind which no word has it
 pub record Newest (words : List ℕ) (n : ℕ) (newest : List ℕ) : Type 0 where
@@ -25,4 +29,4 @@ placeFrom words (suc n) c = when (eqb (getD words (suc n) 0) c) (suc n) (placeFr
 -- r is the place of the word with this code
 pub record Placed (words newest : List ℕ) (c r : ℕ) : Type 0 where
   pub most : r ≤ 95
-  pub is : newestOf newest c ≤ 95 → r ≡ placeFrom words (newestOf newest c) c
+  pub is : r ≡ placeFrom words (searchFrom newest c) c

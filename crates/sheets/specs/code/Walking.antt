@@ -2,9 +2,9 @@
 -- No part of what must be believed: they only tie the code to the definitions.
 use Prim.Native.Nat.{ℕ, zero, suc, _≤_}
 use mathlib.Core.Path.{_≡_}
-use mathlib.Core.Bool.{Bool, true, false}
+use mathlib.Core.Bool.{Bool, true, false, _&&_, _||_}
 use mathlib.Core.List.{List, _∷_}
-use lib.Dec.{eqb}
+use lib.Dec.{eqb, leb}
 use lib.ListN.{length, getD, take}
 use Rattle.sheets.specs.Text.{Word}
 use Rattle.sheets.specs.Trees.{Expr, Exprs, Line, let-line, show-line, numbered}
@@ -14,10 +14,10 @@ use Rattle.sheets.specs.code.Reader.{Got, got, readArgs, readExpr, forme
 use Rattle.sheets.specs.Kinds.{Kind, kindCode}
 use Rattle.sheets.specs.Table.{when}
 use Rattle.sheets.specs.Names.{Known, lookup, barred}
-use Rattle.sheets.specs.code.Newest.{newestOf, Newest}
+use Rattle.sheets.specs.code.Newest.{searchFrom, Newest}
 use Rattle.sheets.specs.code.KindCodes.{keyFrom, kindOr255}
 use Rattle.sheets.specs.Refusals.{name, Refusal, fault, refusalNumber, Checked, fine, bad, thenᶜ, known?}
-use Rattle.sheets.specs.Check.{kindOfExpr, kindsOfExprs, Walked, passes, refuses, stepsᶜ, readingKinds, startᶜ}
+use Rattle.sheets.specs.Check.{kindOfExpr, kindsOfExprs, Walked, passes, refuses, stepsᶜ, startᶜ}
 use Rattle.sheets.specs.Answers.{Verdict, admitted, refused}
 use Rattle.sheets.specs.declared.kind_walk.KindRead.{KindRead}
 use Rattle.sheets.specs.declared.kind_walk.KeyRead.{KeyRead}
@@ -27,23 +27,23 @@ use Rattle.sheets.specs.declared.admit.Admission.{Admission}
 
 -- ---- the words of the lines passed: line i + 1 has the word with the code at the place i of `words`, of the kind with the code there of `codes`
 
--- the kind code of a word by the lines after line 1, the newest first, and then the readings; 255 where it is unknown
-unfoldable pub kindFrom : List ℕ → List ℕ → ℕ → Word → ℕ
-kindFrom words codes zero w = kindOr255 (lookup w readingKinds)
-kindFrom words codes (suc n) w = when (eqb (getD words (suc n) 0) (codeOf w)) (getD codes (suc n) 0) (kindFrom words codes n w)
+-- the kind code of a reading by its word's code, those of r0 to r9 and of r10 to r15; 255 for none
+unfoldable pub readingKind : ℕ → ℕ
+readingKind c = when ((leb 693 c && leb c 702) || (leb 25705 c && leb c 25710)) 0 255
 
--- r is the kind code of the word with this code
-pub record ReadingKind (code r : ℕ) : Type 0 where
-  pub is : (w : Word) → IsWord w → codeOf w ≡ code → r ≡ kindOr255 (lookup w readingKinds)
+-- the kind code of the word with this code by the lines after line 1, the newest first, and then the readings; 255 where it is unknown
+unfoldable pub kindFrom : List ℕ → List ℕ → ℕ → ℕ → ℕ
+kindFrom words codes zero c = readingKind c
+kindFrom words codes (suc n) c = when (eqb (getD words (suc n) 0) c) (getD codes (suc n) 0) (kindFrom words codes n c)
 
-pub record FoundKind (words codes newest : List ℕ) (code r : ℕ) : Type 0 where
-  pub is : newestOf newest code ≤ 95 → (w : Word) → IsWord w → codeOf w ≡ code → r ≡ kindFrom words codes (newestOf newest code) w
+unfoldable pub kindFound : List ℕ → List ℕ → List ℕ → ℕ → ℕ
+kindFound words codes newest c = kindFrom words codes (searchFrom newest c) c
 
 -- so many lines passed stand for the known words ps
 pub record Stands (words codes newest : List ℕ) (passed : ℕ) (ps : Known Kind) : Type 0 where
   pub few : passed ≤ 95
   pub from : Newest words passed newest
-  pub is : (w : Word) → IsWord w → kindFrom words codes passed w ≡ kindOr255 (lookup w ps)
+  pub is : (w : Word) → IsWord w → kindFrom words codes passed (codeOf w) ≡ kindOr255 (lookup w ps)
 
 abbrev pub Standing : List ℕ → List ℕ → List ℕ → Known Kind → Type 0
 Standing words codes newest ps = (passed : ℕ) × Stands words codes newest passed ps

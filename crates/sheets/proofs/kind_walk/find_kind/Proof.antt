@@ -2,6 +2,7 @@
 use native.Mathlib.Omega.{arith}
 use mathlib.Core.Path.{_∙_}
 use borrow.Author.Needs.{needs}
+use Rattle.sheets.specs.code.Walking.{kindFound}
 use Rattle.sheets.proofs.PassedLaws.{kind-reading, kind-there}
 use Rattle.sheets.proofs.kind_walk.find_kind.Statement.{statement}
 use Rattle.sheets.proofs.kind_walk.find_kind.Tie as tie
@@ -13,13 +14,15 @@ reading-kind-requires : tie.Need-reading-kind-requires
 reading-kind-requires c κs = search needs
 
 returns : tie.Need-returns
-returns c = record { is = λ few w hw e. c .reading-kind .ensures .is w hw e ∙ kind-reading _ _ w _ _ _ (c .before .before .word-place .ensures .is few) e (c .before .if1 .taken) }
+unfolding kindFound
+returns c = c .reading-kind .ensures ∙ kind-reading _ _ _ _ _ (c .before .before .word-place .ensures .is) (c .before .if1 .taken)
 
 element-copy-out-result : tie.Need-element-copy-out-result
 element-copy-out-result c = omega (arith, c .before .word-place .ensures .most)
 
 returns-2 : tie.Need-returns-2
-returns-2 c = record { is = λ few w hw e. kind-there _ _ w _ _ _ (c .before .before .word-place .ensures .is few) e (c .before .if1 .left) }
+unfolding kindFound
+returns-2 c = kind-there _ _ _ _ _ (c .before .before .word-place .ensures .is) (c .before .if1 .left)
 
 pub find-kind-spec : {M : Type 1} → statement M
 find-kind-spec =
