@@ -5,14 +5,16 @@ use mathlib.Core.Path.{_≡_, refl, sym, ap, _∙_, subst}
 use mathlib.Core.Bool.{Bool, true, false}
 use mathlib.Core.List.{List, [], _∷_, _++_}
 use mathlib.Core.Option.{Option, none, some}
+use lib.Dec.{leb}
 use lib.ListN.{length, take, set, replicate}
 use lib.Seq.{take-suc-set, length-take-le}
+use borrow.Author.Tests.{leb-true, leb-false}
 use Rattle.frames.specs.declared.ellipsoid.Ellipsoid.{Ellipsoid}
-use Rattle.sheets.specs.Trees.{Line, let-line, show-line, Sheet, numbered}
+use Rattle.sheets.specs.Trees.{Line, let-line, show-line, Head, Sheet, numbered}
 use Rattle.sheets.specs.Grammar.{IsLine, after}
 use Rattle.sheets.specs.code.Codes.{codeOf}
-use Rattle.sheets.specs.code.Reader.{readLine, readHead, Form, formed, badLine, readLines, readSheet}
-use Rattle.sheets.specs.code.Views.{formOf}
+use Rattle.sheets.specs.code.Reader.{Got, none as noGot, got, readLine, readHead, Form, formed, badLine, _thenᶠ_, readLines, sheetStep, readSheet}
+use Rattle.sheets.specs.code.Views.{linesForm}
 use Rattle.sheets.specs.code.FirstLines.{firstIn, firstOf}
 use Rattle.sheets.specs.Kinds.{Kind, kindCode}
 use Rattle.sheets.specs.Names.{lookup, barred, givenOn}
@@ -20,11 +22,12 @@ use Rattle.sheets.specs.Scopes.{withName, giveIf}
 use Rattle.sheets.specs.Refusals.{Fault, name, fault, refusalNumber, Checked, fine, bad, thenᶜ, known?}
 use Rattle.sheets.specs.Check.{kindOfExpr, Stateᶜ, noted, stepᶜ, Walked, passes, refuses, onwardᶜ, stepsᶜ, startᶜ, walk}
 use Rattle.sheets.specs.Answers.{ranged, ofWalked, ofRange, ofForm}
+use Rattle.sheets.specs.Machine.{surface}
 use Rattle.sheets.specs.declared.form.FormRead.{FormRead}
 use Rattle.sheets.specs.declared.first_line.FirstLine.{FirstLine}
 use Rattle.sheets.proofs.Spans.{holds-at}
 use Rattle.sheets.proofs.LineLaws.{LineStands, line-sound}
-use Rattle.sheets.proofs.Walks.{Step, walk-start, walk-end, walk-line}
+use Rattle.sheets.proofs.Walks.{Step, walk-end, walk-line, walk-few}
 use Rattle.sheets.specs.code.Walking.{kindFrom, Stands, lineWord, unbarred, lineKind, lineSaid, LineHas, Walks, LinesWalk, Admits}
 use Rattle.sheets.specs.declared.admit.LineKind.{LineKind}
 use Rattle.sheets.specs.declared.admit.Outcome.{Outcome}
@@ -66,37 +69,48 @@ laid-after codes n h i s l k e =
     go (let-line w x) = refl
     go (show-line w) = refl
 
--- ---- the walk, where so many lines after line 1 are passed and the next one stands at a place; the whole walk comes to o
+-- ---- the walk over a sheet of so many lines, where so many after line 1 are passed and the next one stands at a place; the whole walk comes to o
 
-pub record Midway (s : List ℕ) (at passed : ℕ) (words codes newest : List ℕ) (o : Walked) : Type 0 where
+pub record Midway (s : List ℕ) (all at passed : ℕ) (words codes newest : List ℕ) (o : Walked) : Type 0 where
   pub lines : List Line
   pub phase : ℕ
   pub state : Stateᶜ
+  pub count : passed + 1 + length lines ≡ all
   pub goes : readLines (95 - passed) (passed + 2) phase s at ≡ formed lines
   pub rest : stepsᶜ (numbered (passed + 2) lines) state ≡ o
   pub stands : Stands words codes newest passed (state .scope .known)
   pub laid : take (passed + 1) codes ≡ 255 ∷ state .codes
 
-pub midway-start : (s : List ℕ) (at : ℕ) (ls : List Line) → readLines 95 2 0 s at ≡ formed ls → Midway s at 0 (replicate 96 0) (replicate 96 255) (replicate 512 0) (stepsᶜ (numbered 2 ls) startᶜ)
+pub midway-start : (s : List ℕ) (all at : ℕ) (ls : List Line) → readLines 95 2 0 s at ≡ formed ls → all ≡ length ls + 1 → Midway s all at 0 (replicate 96 0) (replicate 96 255) (replicate 512 0) (stepsᶜ (numbered 2 ls) startᶜ)
 unfolding kindFrom
-midway-start s at ls e = record { lines = ls; phase = 0; state = startᶜ; goes = e; rest = refl; stands = record { few = omega arith; from = newest-none _; is = reading-is }; laid = refl }
+midway-start s all at ls e n = record { lines = ls; phase = 0; state = startᶜ; count = omega arith; goes = e; rest = refl; stands = record { few = omega arith; from = newest-none _; is = reading-is }; laid = refl }
 
-module _ (s : List ℕ) (at passed : ℕ) (words codes newest : List ℕ) (o : Walked) (m : Midway s at passed words codes newest o) where
-  pub walk-done : passed ≤ 95 → length codes ≡ 96 → length s ≤ at → Walks o (record { outcome = Outcome.Passes (passed + 1); codes = codes })
+no-lines : (ls : List Line) → length ls ≤ 0 → ls ≡ []
+no-lines [] h = refl
+no-lines (l ∷ ls) h = absurd (omega arith)
+
+module _ (s : List ℕ) (all at passed : ℕ) (words codes newest : List ℕ) (o : Walked) (m : Midway s all at passed words codes newest o) where
+  pub walk-done : all ≤ 96 → length codes ≡ 96 → all ≤ passed + 1 → (e : Ellipsoid) (start : ℕ) → Walks o e start (record { outcome = Outcome.Passes all e start; codes = codes })
   unfolding Walks stepsᶜ
-  walk-done le lc h =
-      let z = walk-end s (95 - passed) (passed + 2) (m .phase) at (m .lines) (m .goes) h in
-      let e : passes (m .state .codes) ≡ o = ap (λ ls. stepsᶜ (numbered (passed + 2) ls) (m .state)) (sym z) ∙ m .rest in
+  walk-done le lc h e start =
+      let c = m .count in
+      let z = no-lines (m .lines) (omega arith) in
+      let w : passes (m .state .codes) ≡ o = ap (λ ls. stepsᶜ (numbered (passed + 2) ls) (m .state)) (sym z) ∙ m .rest in
       let n : length (255 ∷ m .state .codes) ≡ passed + 1 = ap length (sym (m .laid)) ∙ length-take-le (passed + 1) codes (omega arith) in
-      subst (λ q. Walks q (record { outcome = Outcome.Passes (passed + 1); codes = codes })) e
-      (ap (λ k. Outcome.Passes k) (sym n), omega arith, ap (λ k. take k codes) n ∙ m .laid)
+      let i : all ≡ length (255 ∷ m .state .codes) = omega arith in
+      subst (λ q. Walks q e start (record { outcome = Outcome.Passes all e start; codes = codes })) w
+      (ap (λ k. Outcome.Passes k e start) i, omega arith, ap (λ k. take k codes) n ∙ m .laid)
 
-  module _ (h : at < length s) where
+  module _ (h : passed + 1 < all) where
+    inside : at < length s
+    inside = go (leb (length s) at) refl
+      where
+        go : (b : Bool) → leb (length s) at ≡ b → at < length s
+        go true e = let z = ap length (walk-end s (95 - passed) (passed + 2) (m .phase) at (m .lines) (m .goes) (leb-true (length s) at e)) in let c = m .count in absurd (omega arith)
+        go false e = leb-false (length s) at e
+
     now : Step s (95 - passed) (passed + 2) (m .phase) at (m .lines) (m .goes)
-    now = walk-line s (95 - passed) (passed + 2) (m .phase) at (m .lines) (m .goes) h
-
-    pub walk-over : {C : Type 0} → 95 ≤ passed → C
-    walk-over l = let e = now .one-less in absurd (omega arith)
+    now = walk-line s (95 - passed) (passed + 2) (m .phase) at (m .lines) (m .goes) inside
 
     here : stepsᶜ (numbered (passed + 2) (now .line ∷ now .rest)) (m .state) ≡ o
     here = ap (λ ls. stepsᶜ (numbered (passed + 2) ls) (m .state)) (sym (now .all)) ∙ m .rest
@@ -106,15 +120,15 @@ module _ (s : List ℕ) (at passed : ℕ) (words codes newest : List ℕ) (o : W
       said : r ≡ lineSaid (lineWord (now .line)) (lineKind (now .line) (m .state .scope .known)) (now .next)
       said = hr .is (now .line) (now .next) (now .stands)
 
-      pub walk-fault : (number : ℕ) → r ≡ LineKind.Refused number → (a : Admission) → a .outcome ≡ Outcome.Refuses number (passed + 2) → Walks o a
+      pub walk-fault : (number : ℕ) → r ≡ LineKind.Refused number → (a : Admission) → a .outcome ≡ Outcome.Refuses number (passed + 2) → (e : Ellipsoid) (start : ℕ) → Walks o e start a
       unfolding Walks lineSaid
-      walk-fault number er a ea = go (lineKind (now .line) (m .state .scope .known)) refl said
+      walk-fault number er a ea el start = go (lineKind (now .line) (m .state .scope .known)) refl said
         where
-          go : (q : Checked Kind) → lineKind (now .line) (m .state .scope .known) ≡ q → r ≡ lineSaid (lineWord (now .line)) q (now .next) → Walks o a
+          go : (q : Checked Kind) → lineKind (now .line) (m .state .scope .known) ≡ q → r ≡ lineSaid (lineWord (now .line)) q (now .next) → Walks o el start a
           go (fine k) eq e = let z : _≡_ {A = ℕ} 0 1 = cc in absurd (omega arith)
           go (bad f) eq e =
               let i : number ≡ refusalNumber (fault f) = cc in
-              subst (λ q. Walks q a) (sym (steps-bad (now .line) (now .rest) (passed + 2) (m .state) f eq) ∙ here) (ea ∙ ap (λ k. Outcome.Refuses k (passed + 2)) i)
+              subst (λ q. Walks q el start a) (sym (steps-bad (now .line) (now .rest) (passed + 2) (m .state) f eq) ∙ here) (ea ∙ ap (λ k. Outcome.Refuses k (passed + 2)) i)
 
       module _ (le : passed < 95) (lw : length words ≡ 96) (lc : length codes ≡ 96) (code kind next : ℕ) (er : r ≡ LineKind.Is code kind next) where
         stands-after : (l : Line) → IsLine l → (k : Kind) → lineKind l (m .state .scope .known) ≡ fine k
@@ -139,12 +153,12 @@ module _ (s : List ℕ) (at passed : ℕ) (words codes newest : List ℕ) (o : W
             let ei : passed + 1 + 2 ≡ suc (passed + 2) = omega arith in
             ap (λ i. stepsᶜ (numbered i (now .rest)) (stepped (passed + 2) (m .state) (now .line) k)) ei ∙ sym (steps-fine (now .line) (now .rest) (passed + 2) (m .state) k e) ∙ here
 
-        pub walk-on : (later : List ℕ) → later ≡ set newest (code % 512) (passed + 1) → Midway s next (passed + 1) (set words (passed + 1) code) (set codes (passed + 1) kind) later o
+        pub walk-on : (later : List ℕ) → later ≡ set newest (code % 512) (passed + 1) → Midway s all next (passed + 1) (set words (passed + 1) code) (set codes (passed + 1) kind) later o
         unfolding lineSaid
         walk-on later el = go (lineKind (now .line) (m .state .scope .known)) refl said
           where
             go : (q : Checked Kind) → lineKind (now .line) (m .state .scope .known) ≡ q → r ≡ lineSaid (lineWord (now .line)) q (now .next)
-                → Midway s next (passed + 1) (set words (passed + 1) code) (set codes (passed + 1) kind) later o
+                → Midway s all next (passed + 1) (set words (passed + 1) code) (set codes (passed + 1) kind) later o
             go (fine k) eq e =
                 let ec : codeOf (lineWord (now .line)) ≡ code = cc in
                 let ek : kindCode k ≡ kind = cc in
@@ -154,6 +168,7 @@ module _ (s : List ℕ) (at passed : ℕ) (words codes newest : List ℕ) (o : W
                   lines = now .rest;
                   phase = after (m .phase) (now .line);
                   state = stepped (passed + 2) (m .state) (now .line) k;
+                  count = let i = ap length (now .all) in let c = m .count in omega arith;
                   goes = goes-after en;
                   rest = rest-after k eq;
                   stands = rw (el, ← ec, ← ek) (stands-after (now .line) line k eq);
@@ -161,51 +176,101 @@ module _ (s : List ℕ) (at passed : ℕ) (words codes newest : List ℕ) (o : W
                 }
             go (bad f) eq e = let z : _≡_ {A = ℕ} 0 1 = cc in absurd (omega arith)
 
--- ---- the whole sheet: f is what the form pass answered, q what line 1 came to
+-- ---- the whole sheet: q is what line 1 came to
 
-module _ (s : List ℕ) (f : FormRead) (ef : f ≡ formOf (readSheet s)) (a : Admission) where
-  pub admit-bad-form : (j : ℕ) → f ≡ FormRead.Bad j → a .outcome ≡ Outcome.Refuses 3 j → Admits (ofForm (readSheet s)) a
-  unfolding formOf Admits
-  admit-bad-form j h ea = go (readSheet s) (sym ef ∙ h)
+module _ (s : List ℕ) (q : FirstLine) (eq : q ≡ firstOf (readHead s)) (a : Admission) where
+  pub admit-no-head : q ≡ FirstLine.Bad → a .outcome ≡ Outcome.Refuses 3 1 → Admits s (ofForm (readSheet s)) a
+  unfolding readSheet sheetStep firstOf firstIn Admits
+  admit-no-head h ea = go (readHead s) (sym eq ∙ h)
     where
-      go : (o : Form Sheet) → formOf o ≡ FormRead.Bad j → Admits (ofForm o) a
-      go (formed c) e = let z : _≡_ {A = ℕ} 0 1 = cc in absurd (omega arith)
-      go (badLine i) e = let k : j ≡ i = cc in ea ∙ ap (λ x. Outcome.Refuses 3 x) k
+      never : (b : Bool) (x : Head) (m : ℕ) → firstIn b x m ≡ FirstLine.Bad → ⊥
+      never true x m e = let z : _≡_ {A = ℕ} 0 1 = cc in omega arith
+      never false x m e = let z : _≡_ {A = ℕ} 0 1 = cc in omega arith
 
-  module _ (n : ℕ) (h : f ≡ FormRead.Fine n) (q : FirstLine) (eq : q ≡ firstOf (readHead s)) where
-    -- a sheet, by what its line 1 comes to
-    of-sheet : ((c : Sheet) (m : ℕ) → readLines 95 2 0 s m ≡ formed (c .lines) → q ≡ firstIn (ranged (c .head)) (c .head) m → Admits (ofRange (ranged (c .head)) c) a) → Admits (ofForm (readSheet s)) a
-    unfolding formOf firstOf
-    of-sheet g = go (readSheet s) refl (sym ef ∙ h)
+      go : (o : Got Head) → firstOf o ≡ FirstLine.Bad → Admits s (ofForm (sheetStep o (readLines 95 2 0 s))) a
+      go noGot e = ea
+      go (got x m) e = absurd (never (ranged x) x m e)
+
+  -- line 1 says x, line 2 stands at m, and f is what the form pass over the lines from there answered
+  module _ (m : ℕ) (f : FormRead) (ef : f ≡ linesForm 2 (readLines 95 2 0 s m)) where
+    abbrev Whole : Head → Form (List Line) → Type 0
+    Whole x o = Admits s (ofForm (o thenᶠ (λ ls. formed (record { head = x; lines = ls })))) a
+
+    whole : (x : Head) → readHead s ≡ got x m → Whole x (readLines 95 2 0 s m) → Admits s (ofForm (readSheet s)) a
+    unfolding readSheet sheetStep
+    whole x eh w = subst (λ o. Admits s (ofForm (sheetStep o (readLines 95 2 0 s))) a) (sym eh) w
+
+    bad-lines : (x : Head) → readHead s ≡ got x m → (j : ℕ) → f ≡ FormRead.Bad j → a .outcome ≡ Outcome.Refuses 3 j → Admits s (ofForm (readSheet s)) a
+    unfolding linesForm Admits _thenᶠ_
+    bad-lines x eh j h ea = whole x eh (go (readLines 95 2 0 s m) (sym ef ∙ h))
       where
-        go : (o : Form Sheet) → readSheet s ≡ o → formOf o ≡ FormRead.Fine n → Admits (ofForm o) a
-        go (formed c) eo e = let (m, eh, el) = walk-start s c eo in g c m el (eq ∙ ap firstOf eh)
+        go : (o : Form (List Line)) → linesForm 2 o ≡ FormRead.Bad j → Whole x o
+        go (formed ls) e = let z : _≡_ {A = ℕ} 0 1 = cc in absurd (omega arith)
+        go (badLine i) e = let k : j ≡ i = cc in ea ∙ ap (λ y. Outcome.Refuses 3 y) k
+
+    fine-lines : (x : Head) → readHead s ≡ got x m → (n : ℕ) → f ≡ FormRead.Fine n
+        → ((ls : List Line) → readLines 95 2 0 s m ≡ formed ls → n ≡ length ls + 1 → Admits s (ofRange (ranged x) (record { head = x; lines = ls })) a) → Admits s (ofForm (readSheet s)) a
+    unfolding linesForm _thenᶠ_
+    fine-lines x eh n h g = whole x eh (go (readLines 95 2 0 s m) refl (sym ef ∙ h))
+      where
+        go : (o : Form (List Line)) → readLines 95 2 0 s m ≡ o → linesForm 2 o ≡ FormRead.Fine n → Whole x o
+        go (formed ls) eo e = let i : 2 - 1 + length ls ≡ n = cc in g ls eo (omega arith)
         go (badLine i) eo e = let z : _≡_ {A = ℕ} 0 1 = cc in absurd (omega arith)
 
-    pub admit-no-head : q ≡ FirstLine.Bad → Admits (ofForm (readSheet s)) a
-    unfolding firstIn
-    admit-no-head i = of-sheet (λ c m el e. go c m (ranged (c .head)) e)
-      where
-        go : (c : Sheet) (m : ℕ) (b : Bool) → q ≡ firstIn b (c .head) m → Admits (ofRange b c) a
-        go c m true e = let z : _≡_ {A = ℕ} 0 1 = cc in absurd (omega arith)
-        go c m false e = let z : _≡_ {A = ℕ} 0 1 = cc in absurd (omega arith)
+    -- ---- a number of line 1 is out of range
+    module _ (h : q ≡ FirstLine.OutOfRange m) where
+      out-head : (x : Head) × (readHead s ≡ got x m) × (ranged x ≡ false)
+      unfolding firstOf firstIn
+      out-head = go (readHead s) refl (sym eq ∙ h)
+        where
+          in-it : (b : Bool) (x : Head) (k : ℕ) → ranged x ≡ b → readHead s ≡ got x k → firstIn b x k ≡ FirstLine.OutOfRange m → (x : Head) × (readHead s ≡ got x m) × (ranged x ≡ false)
+          in-it true x k er eo e = let z : _≡_ {A = ℕ} 0 1 = cc in absurd (omega arith)
+          in-it false x k er eo e = let i : k ≡ m = cc in (x, eo ∙ ap (got x) i, er)
 
-    pub admit-out-of-range : q ≡ FirstLine.OutOfRange → a .outcome ≡ Outcome.Refuses 4 1 → Admits (ofForm (readSheet s)) a
-    unfolding firstIn Admits
-    admit-out-of-range i ea = of-sheet (λ c m el e. go c m (ranged (c .head)) e)
-      where
-        go : (c : Sheet) (m : ℕ) (b : Bool) → q ≡ firstIn b (c .head) m → Admits (ofRange b c) a
-        go c m true e = let z : _≡_ {A = ℕ} 0 1 = cc in absurd (omega arith)
-        go c m false e = ea
+          go : (o : Got Head) → readHead s ≡ o → firstOf o ≡ FirstLine.OutOfRange m → (x : Head) × (readHead s ≡ got x m) × (ranged x ≡ false)
+          go noGot eo e = let z : _≡_ {A = ℕ} 0 1 = cc in absurd (omega arith)
+          go (got x k) eo e = in-it (ranged x) x k refl eo e
 
-    pub admit-in-range : (d : Ellipsoid) (m : ℕ) → q ≡ FirstLine.Is d m → LinesWalk s m a → Admits (ofForm (readSheet s)) a
-    unfolding firstIn Admits Walks walk
-    admit-in-range d m i w = of-sheet (λ c k el e. go c k el (ranged (c .head)) e)
-      where
-        by-walk : (c : Sheet) (o : Walked) → Walks o a → Admits (ofWalked c o) a
-        by-walk c (passes cs) t = t
-        by-walk c (refuses x j) t = t
+      pub out-bad-form : (j : ℕ) → f ≡ FormRead.Bad j → a .outcome ≡ Outcome.Refuses 3 j → Admits s (ofForm (readSheet s)) a
+      out-bad-form = bad-lines (out-head .0) (out-head .1)
 
-        go : (c : Sheet) (k : ℕ) → readLines 95 2 0 s k ≡ formed (c .lines) → (b : Bool) → q ≡ firstIn b (c .head) k → Admits (ofRange b c) a
-        go c k el true e = let j : m ≡ k = cc in by-walk c (walk c) (w .is (c .lines) (ap (readLines 95 2 0 s) j ∙ el))
-        go c k el false e = let z : _≡_ {A = ℕ} 0 1 = cc in absurd (omega arith)
+      pub admit-out-of-range : (n : ℕ) → f ≡ FormRead.Fine n → a .outcome ≡ Outcome.Refuses 4 1 → Admits s (ofForm (readSheet s)) a
+      unfolding Admits
+      admit-out-of-range n hf ea = fine-lines (out-head .0) (out-head .1) n hf (λ ls el en. subst (λ b. Admits s (ofRange b (record { head = out-head .0; lines = ls })) a) (sym (out-head .2)) ea)
+
+    -- ---- line 1 is in range
+    module _ (d : Ellipsoid) (h : q ≡ FirstLine.Is d m) where
+      in-head : (x : Head) × (readHead s ≡ got x m) × (ranged x ≡ true) × (d ≡ surface x)
+      unfolding firstOf firstIn
+      in-head = go (readHead s) refl (sym eq ∙ h)
+        where
+          in-it : (b : Bool) (x : Head) (k : ℕ) → ranged x ≡ b → readHead s ≡ got x k → firstIn b x k ≡ FirstLine.Is d m → (x : Head) × (readHead s ≡ got x m) × (ranged x ≡ true) × (d ≡ surface x)
+          in-it true x k er eo e = let i : k ≡ m = cc in let j : d ≡ surface x = cc in (x, eo ∙ ap (got x) i, er, j)
+          in-it false x k er eo e = let z : _≡_ {A = ℕ} 0 1 = cc in absurd (omega arith)
+
+          go : (o : Got Head) → readHead s ≡ o → firstOf o ≡ FirstLine.Is d m → (x : Head) × (readHead s ≡ got x m) × (ranged x ≡ true) × (d ≡ surface x)
+          go noGot eo e = let z : _≡_ {A = ℕ} 0 1 = cc in absurd (omega arith)
+          go (got x k) eo e = in-it (ranged x) x k refl eo e
+
+      pub in-bad-form : (j : ℕ) → f ≡ FormRead.Bad j → a .outcome ≡ Outcome.Refuses 3 j → Admits s (ofForm (readSheet s)) a
+      in-bad-form = bad-lines (in-head .0) (in-head .1)
+
+      pub admit-in-range : (n : ℕ) → f ≡ FormRead.Fine n → LinesWalk s m n d a → Admits s (ofForm (readSheet s)) a
+      unfolding Admits Walks walk
+      admit-in-range n hf w =
+          fine-lines (in-head .0) (in-head .1) n hf (λ ls el en.
+          let c : Sheet = record { head = in-head .0; lines = ls } in
+          subst (λ b. Admits s (ofRange b c) a) (sym (in-head .2)) (by-walk c el (walk c) (subst (λ e. Walks (walk c) e m a) (in-head .3) (w .is ls el en))))
+        where
+          by-walk : (c : Sheet) → readLines 95 2 0 s m ≡ formed (c .lines) → (o : Walked) → Walks o (surface (c .head)) m a → Admits s (ofWalked c o) a
+          by-walk c el (passes cs) t = (m, el, t)
+          by-walk c el (refuses x j) t = t
+
+-- the form pass counts at most 96 lines
+pub few-formed : (s : List ℕ) (m : ℕ) (f : FormRead) → f ≡ linesForm 2 (readLines 95 2 0 s m) → (n : ℕ) → f ≡ FormRead.Fine n → n ≤ 96
+unfolding linesForm
+few-formed s m f ef n h = go (readLines 95 2 0 s m) refl (sym ef ∙ h)
+  where
+    go : (o : Form (List Line)) → readLines 95 2 0 s m ≡ o → linesForm 2 o ≡ FormRead.Fine n → n ≤ 96
+    go (formed ls) eo e = let i : 2 - 1 + length ls ≡ n = cc in let l = walk-few s 95 2 0 m ls eo in omega arith
+    go (badLine i) eo e = let z : _≡_ {A = ℕ} 0 1 = cc in absurd (omega arith)

@@ -12,21 +12,18 @@ use borrow.Author.Tests.{eq-eqb, ne-eqb}
 use Rattle.frames.specs.declared.ellipsoid.Ellipsoid.{Ellipsoid}
 use Rattle.sheets.specs.declared.admit.Admission.{Admission}
 use Rattle.sheets.specs.declared.admit.Outcome.{Outcome}
-use Rattle.sheets.specs.declared.first_line.FirstLine.{FirstLine}
 use Rattle.sheets.specs.Trees.{Sheet}
 use Rattle.sheets.specs.code.Slots.{noNames}
-use Rattle.sheets.specs.code.Reader.{Form, formed, badLine, readHead, readLines, readSheet}
+use Rattle.sheets.specs.code.Reader.{Form, formed, badLine, readLines, readSheet}
 use Rattle.sheets.specs.Refusals.{size, lent, refusalNumber}
-use Rattle.sheets.specs.code.FirstLines.{firstOf, firstIn}
 use Rattle.sheets.specs.code.Walking.{Admits}
 use Rattle.sheets.specs.Machine.{start, surface, machine}
 use Rattle.sheets.specs.Check.{Walked, passes, refuses, walk}
 use Rattle.sheets.specs.declared.answers.CheckAnswer.{CheckAnswer}
 use Rattle.sheets.specs.declared.answers.RunAnswer.{RunAnswer}
-use Rattle.sheets.specs.Answers.{sized, ranged, Verdict, admitted, refused, ofWalked, ofRange, ofForm, ofLent, ofSize, verdict, checkOf, laid, kindsOfVerdict, lentKinds, CheckOwes, RunOf, lentRun, RunOwes}
+use Rattle.sheets.specs.Answers.{sized, ranged, Verdict, admitted, refused, ofWalked, ofRange, ofForm, ofLent, ofSize, verdict, checkOf, laid, kindsOfVerdict, lentKinds, CheckOwes, Tells, RunOf, lentRun, RunOwes}
 use Rattle.sheets.specs.code.Writing.{writes, part}
 use Rattle.sheets.proofs.WritingLaws.{name-written, laid-first}
-use Rattle.sheets.proofs.Walks.{walk-start}
 use Rattle.sheets.proofs.Sound.{agree}
 use Rattle.sheets.proofs.ClaimHolds.{unstuck, claim}
 use Rattle.sheets.proofs.ConfinedHolds.{confined}
@@ -63,19 +60,10 @@ nay : (t : Bool) → not t ≡ true → t ≡ false
 nay true e = let z : _≡_ {A = ℕ} 0 1 = cc in absurd (omega arith)
 nay false e = refl
 
-same-first : (a b : Ellipsoid) (m n : ℕ) → FirstLine.Is a m ≡ FirstLine.Is b n → (a ≡ b) × (m ≡ n)
-same-first a b m n e = (cc, cc)
-
-pub range-not-is : (a : Ellipsoid) (n : ℕ) → FirstLine.OutOfRange ≡ FirstLine.Is a n → ⊥
-range-not-is a n e = let z : _≡_ {A = ℕ} 0 1 = cc in omega arith
-
-pub bad-not-is : (a : Ellipsoid) (n : ℕ) → FirstLine.Bad ≡ FirstLine.Is a n → ⊥
-bad-not-is a n e = let z : _≡_ {A = ℕ} 0 1 = cc in omega arith
-
-pub few-lines : (v : Verdict) (a : Admission) → Admits v a → (n : ℕ) → a .outcome ≡ Outcome.Passes n → n ≤ 96
+pub few-lines : (s : List ℕ) (v : Verdict) (a : Admission) → Admits s v a → (n : ℕ) (d : Ellipsoid) (at : ℕ) → a .outcome ≡ Outcome.Passes n d at → n ≤ 96
 unfolding Admits
-few-lines (admitted c cs) a (o, l, t) n e = let i : n ≡ length cs = cc in omega arith
-few-lines (refused r i) a o n e = let z : _≡_ {A = ℕ} 0 1 = cc in absurd (omega arith)
+few-lines s (admitted c cs) a (m, el, p) n d at e = let o = p .0 in let l = p .1 in let i : n ≡ length cs = cc in omega arith
+few-lines s (refused r i) a o n d at e = let z : _≡_ {A = ℕ} 0 1 = cc in absurd (omega arith)
 
 module _ (s : List ℕ) (b : Bool) (eb : b ≡ sized s) where
   too-large : not b ≡ true → (l : Bool) → judged l s ≡ refused size 0
@@ -93,7 +81,7 @@ module _ (s : List ℕ) (b : Bool) (eb : b ≡ sized s) where
     pub check-lent : not b ≡ false → (length kinds ≡ 96 → ⊥) → CheckOwes s kinds (record { number = 2; line = 0 }) kinds
     check-lent h n = checks-by s kinds (refused lent 0) (within-size h (lentKinds kinds) ∙ ap (λ t. ofLent t (readSheet s)) (ne-eqb (length kinds) 96 n)) _ _ refl refl
 
-    module _ (h : not b ≡ false) (n : length kinds ≡ 96) (a : Admission) (ha : Admits (ofForm (readSheet s)) a) where
+    module _ (h : not b ≡ false) (n : length kinds ≡ 96) (a : Admission) (ha : Admits s (ofForm (readSheet s)) a) where
       formed-is : judged (lentKinds kinds) s ≡ ofForm (readSheet s)
       formed-is = within-size h (lentKinds kinds) ∙ ap (λ t. ofLent t (readSheet s)) (eq-eqb (length kinds) 96 n)
 
@@ -101,21 +89,22 @@ module _ (s : List ℕ) (b : Bool) (eb : b ≡ sized s) where
       unfolding Admits
       check-refused k j e = go (ofForm (readSheet s)) formed-is ha
         where
-          go : (v : Verdict) → judged (lentKinds kinds) s ≡ v → Admits v a → CheckOwes s kinds (record { number = k; line = j }) kinds
-          go (admitted c cs) ev (o, l, t) = let z : _≡_ {A = ℕ} 0 1 = cc in absurd (omega arith)
+          go : (v : Verdict) → judged (lentKinds kinds) s ≡ v → Admits s v a → CheckOwes s kinds (record { number = k; line = j }) kinds
+          go (admitted c cs) ev (m, el, p) = let o = p .0 in let z : _≡_ {A = ℕ} 0 1 = cc in absurd (omega arith)
           go (refused r i) ev o =
               let ik : k ≡ refusalNumber r = cc in
               let ij : j ≡ i = cc in
               checks-by s kinds (refused r i) ev _ _ (ap (λ y. record { number = y; line = j }) ik ∙ ap (λ y. record { number = refusalNumber r; line = y }) ij) refl
 
-      pub check-passes : (n : ℕ) → a .outcome ≡ Outcome.Passes n → (kinds′ : List ℕ) → kinds′ ≡ laid (take n (a .codes)) kinds → CheckOwes s kinds (record { number = 0; line = 0 }) kinds′
+      pub check-passes : (n : ℕ) (d : Ellipsoid) (at : ℕ) → a .outcome ≡ Outcome.Passes n d at → (kinds′ : List ℕ) → kinds′ ≡ laid (take n (a .codes)) kinds → CheckOwes s kinds (record { number = 0; line = 0 }) kinds′
       unfolding Admits
-      check-passes n e kinds′ ek = go (ofForm (readSheet s)) formed-is ha
+      check-passes n d at e kinds′ ek = go (ofForm (readSheet s)) formed-is ha
         where
-          go : (v : Verdict) → judged (lentKinds kinds) s ≡ v → Admits v a → CheckOwes s kinds (record { number = 0; line = 0 }) kinds′
-          go (admitted c cs) ev (o, l, t) =
+          go : (v : Verdict) → judged (lentKinds kinds) s ≡ v → Admits s v a → CheckOwes s kinds (record { number = 0; line = 0 }) kinds′
+          go (admitted c cs) ev (m, el, p) =
+              let o = p .0 in
               let i : n ≡ length cs = cc in
-              checks-by s kinds (admitted c cs) ev _ _ refl (ek ∙ ap (λ y. laid (take y (a .codes)) kinds) i ∙ ap (λ y. laid y kinds) t)
+              checks-by s kinds (admitted c cs) ev _ _ refl (ek ∙ ap (λ y. laid (take y (a .codes)) kinds) i ∙ ap (λ y. laid y kinds) (p .2))
           go (refused r i) ev o = let z : _≡_ {A = ℕ} 0 1 = cc in absurd (omega arith)
 
   -- ---- the run
@@ -140,7 +129,7 @@ module _ (s : List ℕ) (b : Bool) (eb : b ≡ sized s) where
       pub run-out : (length out ≡ 24576 → ⊥) → (r : RunAnswer) → r ≡ record { number = 2; line = 0; written = 0 } → RunOwes s rs out r out
       run-out o = unlent h (lent-by false (ne-eqb (length out) 24576 o))
 
-      module _ (o : length out ≡ 24576) (a : Admission) (ha : Admits (ofForm (readSheet s)) a) where
+      module _ (o : length out ≡ 24576) (a : Admission) (ha : Admits s (ofForm (readSheet s)) a) where
         run-formed : judged (lentRun rs out) s ≡ ofForm (readSheet s)
         run-formed = within-size h (lentRun rs out) ∙ ap (λ t. ofLent t (readSheet s)) (lent-by true (eq-eqb (length out) 24576 o))
 
@@ -148,51 +137,36 @@ module _ (s : List ℕ) (b : Bool) (eb : b ≡ sized s) where
         unfolding Admits
         run-refused k j e r er = go (ofForm (readSheet s)) run-formed ha
           where
-            go : (v : Verdict) → judged (lentRun rs out) s ≡ v → Admits v a → RunOwes s rs out r out
-            go (admitted c cs) ev (p, l, t) = let z : _≡_ {A = ℕ} 0 1 = cc in absurd (omega arith)
+            go : (v : Verdict) → judged (lentRun rs out) s ≡ v → Admits s v a → RunOwes s rs out r out
+            go (admitted c cs) ev (m, el, p) = let o = p .0 in let z : _≡_ {A = ℕ} 0 1 = cc in absurd (omega arith)
             go (refused f i) ev p =
                 let ik : k ≡ refusalNumber f = cc in
                 let ij : j ≡ i = cc in
                 ran-by (refused f i) ev r out (er ∙ ap (λ y. record { number = y; line = j; written = 0 }) ik ∙ ap (λ y. record { number = refusalNumber f; line = y; written = 0 }) ij, refl)
 
-        module _ (m : ℕ) (e : a .outcome ≡ Outcome.Passes m) (f : FirstLine) (ef : f ≡ firstOf (readHead s)) where
-          -- a sheet that passes: its tree, its ellipsoid in range, the walk over its lines
-          passing : (c : Sheet) × (cs : List ℕ) × (readSheet s ≡ formed c) × (ranged (c .head) ≡ true) × (walk c ≡ passes cs) × (judged (lentRun rs out) s ≡ admitted c (255 ∷ cs))
-          unfolding Admits
-          passing = go (readSheet s) refl ha
-            where
-              walked : (c : Sheet) → readSheet s ≡ formed c → ranged (c .head) ≡ true → (o : Walked) → walk c ≡ o → Admits (ofWalked c o) a
-                  → (c : Sheet) × (cs : List ℕ) × (readSheet s ≡ formed c) × (ranged (c .head) ≡ true) × (walk c ≡ passes cs) × (judged (lentRun rs out) s ≡ admitted c (255 ∷ cs))
-              walked c es er (passes cs) ew p = (c, cs, es, er, ew, run-formed ∙ ap ofForm es ∙ ap (λ t. ofRange t c) er ∙ ap (ofWalked c) ew)
-              walked c es er (refuses q j) ew p = let z : _≡_ {A = ℕ} 0 1 = cc in absurd (omega arith)
+        -- a sheet that passes never sticks, and the run over its lines begins with its ellipsoid at line 2
+        pub run-lines : (n : ℕ) (d : Ellipsoid) (at : ℕ) → a .outcome ≡ Outcome.Passes n d at → (r : RunAnswer) (out′ : List ℕ) → Runs s d rs out at 2 noNames 0 0 out r out′ → RunOwes s rs out r out′
+        unfolding Admits machine
+        run-lines n d at e r out′ hr = go (readSheet s) refl ha
+          where
+            starts : (c : Sheet) (cs : List ℕ) (m : ℕ) → readLines 95 2 0 s m ≡ formed (c .lines) → a .outcome ≡ Outcome.Passes (length cs) (surface (c .head)) m → (ds : List ℕ) → walk c ≡ passes ds → Tells (machine c rs) out r out′
+            starts c cs m el p ds ew =
+                let i : surface (c .head) ≡ d = cc in
+                let j : m ≡ at = cc in
+                hr .is o (c .lines) 95 0 (subst (λ y. readLines 95 2 0 s y ≡ formed (c .lines)) j el) refl (start (c .head) rs) i (tabled-start rs noNames) refl (omega arith) refl (unstuck (machine c rs) (walk c) ds (agree c rs) ew)
 
-              range : (c : Sheet) → readSheet s ≡ formed c → (t : Bool) → ranged (c .head) ≡ t → Admits (ofRange t c) a
-                  → (c : Sheet) × (cs : List ℕ) × (readSheet s ≡ formed c) × (ranged (c .head) ≡ true) × (walk c ≡ passes cs) × (judged (lentRun rs out) s ≡ admitted c (255 ∷ cs))
-              range c es true er p = walked c es er (walk c) refl p
-              range c es false er p = let z : _≡_ {A = ℕ} 0 1 = cc in absurd (omega arith)
+            walked : (c : Sheet) → readSheet s ≡ formed c → ranged (c .head) ≡ true → (w : Walked) → walk c ≡ w → Admits s (ofWalked c w) a → RunOwes s rs out r out′
+            walked c es er (passes ds) ew (m, el, p) =
+                ran-by (admitted c (255 ∷ ds)) (run-formed ∙ ap ofForm es ∙ ap (λ b. ofRange b c) er ∙ ap (ofWalked c) ew) r out′ (starts c (255 ∷ ds) m el (p .0) ds ew)
+            walked c es er (refuses q j) ew p = let z : _≡_ {A = ℕ} 0 1 = cc in absurd (omega arith)
 
-              go : (t : Form Sheet) → readSheet s ≡ t → Admits (ofForm t) a
-                  → (c : Sheet) × (cs : List ℕ) × (readSheet s ≡ formed c) × (ranged (c .head) ≡ true) × (walk c ≡ passes cs) × (judged (lentRun rs out) s ≡ admitted c (255 ∷ cs))
-              go (formed c) es p = range c es (ranged (c .head)) refl p
-              go (badLine j) es p = let z : _≡_ {A = ℕ} 0 1 = cc in absurd (omega arith)
+            range : (c : Sheet) → readSheet s ≡ formed c → (b : Bool) → ranged (c .head) ≡ b → Admits s (ofRange b c) a → RunOwes s rs out r out′
+            range c es true er p = walked c es er (walk c) refl p
+            range c es false er p = let z : _≡_ {A = ℕ} 0 1 = cc in absurd (omega arith)
 
-          first-is : (n : ℕ) × (f ≡ FirstLine.Is (surface (passing .0 .head)) n) × (readLines 95 2 0 s n ≡ formed (passing .0 .lines))
-          unfolding firstOf firstIn
-          first-is =
-              let (c, cs, es, er, ew, ev) = passing in
-              let (n, eh, el) = walk-start s (passing .0) (passing .2) in
-              (n, ef ∙ ap firstOf eh ∙ ap (λ t. firstIn t (passing .0 .head) n) (passing .3), el)
-
-          pub run-no-other : (g : FirstLine) → f ≡ g → ((e : Ellipsoid) (n : ℕ) → g ≡ FirstLine.Is e n → ⊥) → (r : RunAnswer) (out′ : List ℕ) → RunOwes s rs out r out′
-          run-no-other g eg k r out′ = absurd (k (surface (passing .0 .head)) (first-is .0) (sym eg ∙ first-is .1))
-
-          pub run-lines : (el : Ellipsoid) (at : ℕ) → f ≡ FirstLine.Is el at → (r : RunAnswer) (out′ : List ℕ) → Runs s el rs out at 2 noNames 0 0 out r out′ → RunOwes s rs out r out′
-          unfolding machine
-          run-lines el at eg r out′ hr =
-              let c = passing .0 in
-              let (i, j) = same-first (surface (c .head)) el (first-is .0) at (sym (first-is .1) ∙ eg) in
-              let q = hr .is o (c .lines) 95 0 (subst (λ y. readLines 95 2 0 s y ≡ formed (c .lines)) j (first-is .2)) refl (start (c .head) rs) i (tabled-start rs noNames) refl (omega arith) refl (unstuck (machine c rs) (walk c) (passing .1) (agree c rs) (passing .4)) in
-              ran-by (admitted c (255 ∷ passing .1)) (passing .5) r out′ q
+            go : (f : Form Sheet) → readSheet s ≡ f → Admits s (ofForm f) a → RunOwes s rs out r out′
+            go (formed c) es p = range c es (ranged (c .head)) refl p
+            go (badLine j) es p = let z : _≡_ {A = ℕ} 0 1 = cc in absurd (omega arith)
 
 -- ---- both
 

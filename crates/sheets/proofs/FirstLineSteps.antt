@@ -64,7 +64,7 @@ module _ (s : List ℕ) (a b n : ℕ) (v : DoubleRead) (ev : v ≡ doubled (read
       in-range h' d ed o eo =
           numbers-are _ (λ p q ex ey. rw h' (ap (λ z. FirstLine.Is z n) (eo ∙ ap (λ z. ellipsoid z y) (ed ∙ ap metres ex) ∙ ap (ellipsoid (metres (numValue p))) ey)))
 
-      pub out-of-range : t ≡ false → ByNumbers s a b n FirstLine.OutOfRange
+      pub out-of-range : t ≡ false → ByNumbers s a b n (FirstLine.OutOfRange n)
       unfolding firstIn
       out-of-range h' = numbers-are _ (λ p q ex ey. rw h' refl)
 

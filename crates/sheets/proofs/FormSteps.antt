@@ -11,24 +11,19 @@ use Rattle.sheets.specs.Text.{countLF}
 use Rattle.sheets.specs.Trees.{Line, let-line, show-line, Head}
 use Rattle.sheets.specs.Grammar.{allowed, after}
 use Rattle.sheets.specs.code.Reader.{Got, none, got, orElse, readLine, readHead, permitted, Form, formed, badLine, _thenᶠ_, linesStep, readLines, sheetStep, readSheet}
-use Rattle.sheets.specs.code.Views.{place, formOf}
+use Rattle.sheets.specs.code.Views.{place, linesForm, formOf}
 use Rattle.sheets.proofs.LineNumbers.{head-step, line-step}
 use Rattle.sheets.proofs.Viewed.{placed-none, placed-got}
 use Rattle.sheets.specs.declared.expr.Read.{Read}
 use Rattle.sheets.specs.declared.form.FormRead.{FormRead}
 
--- what the form pass answers where the lines from line i on come to f
-unfoldable pub linesForm : ℕ → Form (List Line) → FormRead
-linesForm i (formed ls) = FormRead.Fine (i - 1 + length ls)
-linesForm i (badLine j) = FormRead.Bad j
-
 pub form-no-head : (s : List ℕ) (r : Read) → r ≡ place (readHead s) → r ≡ Read.Bad → FormRead.Bad 1 ≡ formOf (readSheet s)
 unfolding readSheet sheetStep formOf
 form-no-head s r er h = rw (placed-none (readHead s) r er h) refl
 
-pub form-start : (s : List ℕ) (r : Read) → r ≡ place (readHead s) → (n : ℕ) → r ≡ Read.At n → linesForm 2 (readLines (97 - 2) 2 0 s n) ≡ formOf (readSheet s)
+pub form-whole : (s : List ℕ) (r : Read) → r ≡ place (readHead s) → (n : ℕ) → r ≡ Read.At n → linesForm 2 (readLines 95 2 0 s n) ≡ formOf (readSheet s)
 unfolding readSheet sheetStep linesForm formOf _thenᶠ_
-form-start s r er n h =
+form-whole s r er n h =
     let (x, ex) = placed-got (readHead s) r er n h in
     go x (readLines 95 2 0 s n) ∙ sym (ap (λ o. formOf (sheetStep o (readLines 95 2 0 s))) ex)
   where
@@ -36,19 +31,20 @@ form-start s r er n h =
     go x (formed ls) = ap (λ k. FormRead.Fine k) (omega arith)
     go x (badLine j) = refl
 
--- the line at a place that `form` reached: its number is one more than the LFs before it, and the lines from it on, in some phase, make the answer
-pub record Reached (s : List ℕ) (at number : ℕ) : Type 0 where
+-- the line at a place that `form_lines` reached from line 2 at `start`: its number has been stepped at each LF since, and the lines from it on, in some phase, make the answer
+pub record Reached (s : List ℕ) (start at number : ℕ) : Type 0 where
   pub low : 2 ≤ number
   pub high : number ≤ 97
-  pub counts : number ≡ countLF (take at s) + 1
+  pub counts : number + countLF (take start s) ≡ countLF (take at s) + 2
   pub phase : ℕ
-  pub rest : linesForm number (readLines (97 - number) number phase s at) ≡ formOf (readSheet s)
+  pub rest : linesForm number (readLines (97 - number) number phase s at) ≡ linesForm 2 (readLines 95 2 0 s start)
 
-pub number-start : (s : List ℕ) (r : Read) → r ≡ place (readHead s) → (n : ℕ) → r ≡ Read.At n → 2 ≡ countLF (take n s) + 1
-number-start s r er n h = let (x, ex) = placed-got (readHead s) r er n h in omega (arith, head-step s x n ex)
+pub number-next : (s : List ℕ) (at : ℕ) (r : Read) → r ≡ place (readLine s at) → (n : ℕ) → r ≡ Read.At n → (i j : ℕ) → i + j ≡ countLF (take at s) + 2 → i + 1 + j ≡ countLF (take n s) + 2
+number-next s at r er n h i j e = let (x, ex) = placed-got (readLine s at) r er n h in omega (arith, line-step s x at n ex)
 
-pub number-next : (s : List ℕ) (at : ℕ) (r : Read) → r ≡ place (readLine s at) → (n : ℕ) → r ≡ Read.At n → (i : ℕ) → i ≡ countLF (take at s) + 1 → i + 1 ≡ countLF (take n s) + 1
-number-next s at r er n h i e = let (x, ex) = placed-got (readLine s at) r er n h in omega (arith, line-step s x at n ex)
+-- after line 1 a line's number is one more than the LFs before it
+pub reached-number : (s : List ℕ) (x : Head) (start at number : ℕ) → readHead s ≡ got x start → Reached s start at number → number ≡ countLF (take at s) + 1
+reached-number s x start at number e h = omega (arith, head-step s x start e, h .counts)
 
 -- ---- the turns of the loop
 

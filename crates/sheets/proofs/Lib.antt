@@ -25,6 +25,7 @@ pub mod TextBound
 pub mod ClaimHolds
 pub mod ConfinedHolds
 pub mod Starred
+pub mod Pinned
 pub mod AppliedLaws
 pub mod HeldLaws
 pub mod FamilyLaws

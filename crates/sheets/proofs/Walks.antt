@@ -5,29 +5,14 @@ use native.Mathlib.Omega.{arith}
 use mathlib.Core.Path.{_≡_, refl, sym, ap, _∙_}
 use mathlib.Core.Bool.{Bool, true, false}
 use mathlib.Core.List.{List, [], _∷_}
+use lib.Dec.{leb}
 use lib.ListN.{length}
-use borrow.Author.Tests.{le-leb, lt-leb}
-use Rattle.sheets.specs.Trees.{Line, Head, Sheet}
+use borrow.Author.Tests.{le-leb, lt-leb, leb-true, leb-false}
+use Rattle.sheets.specs.Trees.{Line}
 use Rattle.sheets.specs.Grammar.{allowed, after}
-use Rattle.sheets.specs.code.Reader.{Got, none, got, orElse, nothing, readLine, permitted, readIn, readHead, Form, formed, badLine, _thenᶠ_, linesStep, readLines, sheetStep, readSheet}
+use Rattle.sheets.specs.code.Reader.{Got, none, got, orElse, nothing, readLine, permitted, readIn, Form, formed, badLine, _thenᶠ_, linesStep, readLines}
 
 -- ---- the lines of the sheet
-
--- line 1, and the lines from line 2
-pub walk-start : (s : List ℕ) (c : Sheet) → readSheet s ≡ formed c → (n : ℕ) × (readHead s ≡ got (c .head) n) × (readLines 95 2 0 s n ≡ formed (c .lines))
-unfolding readSheet sheetStep _thenᶠ_
-walk-start s c e = go (readHead s) refl e
-  where
-    lines : (h : Head) (n : ℕ) → readHead s ≡ got h n → (f : Form (List Line)) → readLines 95 2 0 s n ≡ f → f thenᶠ (λ ls. formed (record { head = h; lines = ls })) ≡ formed c
-        → (n : ℕ) × (readHead s ≡ got (c .head) n) × (readLines 95 2 0 s n ≡ formed (c .lines))
-    lines h n eh (formed ls) ef e =
-        let i : record { head = h; lines = ls } ≡ c = cc in
-        (n, eh ∙ ap (λ (x : Sheet). got (x .head) n) i, ef ∙ ap (λ (x : Sheet). formed (x .lines)) i)
-    lines h n eh (badLine j) ef e = let z : _≡_ {A = ℕ} 0 1 = cc in absurd (omega arith)
-
-    go : (o : Got Head) → readHead s ≡ o → sheetStep o (readLines 95 2 0 s) ≡ formed c → (n : ℕ) × (readHead s ≡ got (c .head) n) × (readLines 95 2 0 s n ≡ formed (c .lines))
-    go none eo e = let z : _≡_ {A = ℕ} 0 1 = cc in absurd (omega arith)
-    go (got h n) eo e = lines h n eo (readLines 95 2 0 s n) refl e
 
 -- a line that may stand in a phase is a line
 permitted-got : (p : ℕ) (o : Got Line) (l : Line) (n : ℕ) → permitted p o ≡ got l n → (o ≡ got l n) × (allowed p l ≡ true)
@@ -78,3 +63,20 @@ module _ (s : List ℕ) (left i p at : ℕ) (ls : List Line) (e : readLines left
       go : (k : ℕ) → left ≡ k → readLines k i p s at ≡ formed ls → Step
       go zero ek e = let q = rw (lt-leb (length s) at h) at e in let z : _≡_ {A = ℕ} 0 1 = cc in absurd (omega arith)
       go (suc k) ek e = more k ek (readIn p s at) refl (rw (lt-leb (length s) at h) at e)
+
+-- no more lines than may follow
+pub walk-few : (s : List ℕ) (left i p at : ℕ) (ls : List Line) → readLines left i p s at ≡ formed ls → length ls ≤ left
+walk-few s zero i p at ls e = go (leb (length s) at) refl
+  where
+    go : (b : Bool) → leb (length s) at ≡ b → length ls ≤ 0
+    go true h = let z = ap length (walk-end s zero i p at ls e (leb-true (length s) at h)) in omega arith
+    go false h = let w = walk-line s zero i p at ls e (leb-false (length s) at h) in absurd (omega (arith, w .one-less))
+walk-few s (suc k) i p at ls e = go (λ j q n ms. walk-few s k j q n ms) (leb (length s) at) refl
+  where
+    go : ((j q n : ℕ) (ms : List Line) → readLines k j q s n ≡ formed ms → length ms ≤ k) → (b : Bool) → leb (length s) at ≡ b → length ls ≤ suc k
+    go more true h = let z = ap length (walk-end s (suc k) i p at ls e (leb-true (length s) at h)) in omega arith
+    go more false h =
+        let w = walk-line s (suc k) i p at ls e (leb-false (length s) at h) in
+        let f : w .fewer ≡ k = omega (arith, w .one-less) in
+        let r = more (i + 1) (after p (w .line)) (w .next) (w .rest) (ap (λ n. readLines n (i + 1) (after p (w .line)) s (w .next)) (sym f) ∙ w .goes-on) in
+        omega (arith, ap length (w .all), r)

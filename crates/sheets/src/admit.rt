@@ -6,7 +6,7 @@ use crate::expr::Read;
 use crate::first_line::FirstLine;
 use crate::first_line::first_line;
 use crate::form::FormRead;
-use crate::form::form;
+use crate::form::form_lines;
 use crate::kind_walk::KindRead;
 use crate::kind_walk::find_kind;
 use crate::kind_walk::kind_at;
@@ -17,7 +17,9 @@ use crate::lines::closing;
 use crate::lines::opening;
 use crate::lines::word_slot;
 use crate::newest::put_newest;
+use frames::ellipsoid::Ellipsoid;
 ghost use mathlib.Core.Path.{_≡_};
+ghost use Prim.Native.Nat.{_≤_};
 ghost use Rattle.sheets.specs.code.Reader.{readLet, readShow, readLine, readSheet};
 ghost use Rattle.sheets.specs.Answers.{ofForm};
 ghost use Rattle.sheets.specs.declared.admit.Outcome.{Outcome};
@@ -29,9 +31,9 @@ pub enum LineKind {
     Refused(u8),
 }
 
-// How many lines a sheet has that passes, or the number of the refusal and its line.
+// Of a sheet that passes: how many lines it has, its ellipsoid and the place of line 2. Else the number of the refusal and its line.
 pub enum Outcome {
-    Passes(usize),
+    Passes(usize, Ellipsoid, usize),
     Refuses(u8, usize),
 }
 
@@ -143,19 +145,17 @@ fn refused(number: u8, line: usize) -> Admission
     }
 }
 
-// The lines from line 2, which stands at `start`. Line `passed` + 2 stands at `at`.
-fn admit_lines(s: &[u8], start: usize) -> Admission
-    ensures { λ r. ⌜ LinesWalk (now (s .entry)) start r ⌝ }
+// The lines from line 2, which stands at `start`, of a sheet of so many lines, each of the grammar. Line `passed` + 2 stands at `at`.
+fn admit_lines(s: &[u8], start: usize, lines: usize, e: Ellipsoid) -> Admission
+    requires { ⌜ lines ≤ 96 ⌝ }
+    ensures { λ r. ⌜ LinesWalk (now (s .entry)) start lines e r ⌝ }
 {
     let mut words: [u64; 96] = [0; 96];
     let mut codes: [u8; 96] = [255; 96];
     let mut newest: [u8; 512] = [0; 512];
     let mut passed: usize = 0;
     let mut at = start;
-    while at < s.len() {
-        if 95 <= passed {
-            return refused(3, 97);
-        }
+    while passed + 1 < lines {
         let r = line_kind(s, at, &words, &codes, &newest);
         match r {
             LineKind::Refused(number) => {
@@ -170,23 +170,29 @@ fn admit_lines(s: &[u8], start: usize) -> Admission
             }
         }
     }
-    let outcome = Outcome::Passes(passed + 1);
+    let outcome = Outcome::Passes(lines, e, start);
     Admission { outcome, codes }
 }
 
-// Refusals 3 to 6 of a whole sheet: the form of every line comes first.
+// Refusals 3 to 6 of a whole sheet: the form of every line comes before the range of line 1, and that before names and kinds.
 pub fn admit(s: &[u8]) -> Admission
-    ensures { λ r. ⌜ Admits (ofForm (readSheet (now (s .entry)))) r ⌝ }
+    ensures { λ r. ⌜ Admits (now (s .entry)) (ofForm (readSheet (now (s .entry)))) r ⌝ }
 {
-    let f = form(s);
-    match f {
-        FormRead::Bad(line) => refused(3, line),
-        FormRead::Fine(_) => {
-            let h = first_line(s);
-            match h {
-                FirstLine::Bad => refused(3, 1),
-                FirstLine::OutOfRange => refused(4, 1),
-                FirstLine::Is(_, at) => admit_lines(s, at),
+    let h = first_line(s);
+    match h {
+        FirstLine::Bad => refused(3, 1),
+        FirstLine::OutOfRange(start) => {
+            let f = form_lines(s, start);
+            match f {
+                FormRead::Bad(line) => refused(3, line),
+                FormRead::Fine(_) => refused(4, 1),
+            }
+        }
+        FirstLine::Is(e, start) => {
+            let f = form_lines(s, start);
+            match f {
+                FormRead::Bad(line) => refused(3, line),
+                FormRead::Fine(lines) => admit_lines(s, start, lines, e),
             }
         }
     }

@@ -44,7 +44,7 @@ pub fn check(sheet: &[u8], kinds: &mut [u8]) -> CheckAnswer
     let codes = a.codes;
     match outcome {
         Outcome::Refuses(number, line) => CheckAnswer { number, line },
-        Outcome::Passes(lines) => {
+        Outcome::Passes(lines, _, _) => {
             put_codes(codes, lines, kinds);
             CheckAnswer { number: 0, line: 0 }
         }

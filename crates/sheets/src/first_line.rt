@@ -12,10 +12,10 @@ ghost use Rattle.sheets.specs.Limits.{between};
 ghost use Rattle.sheets.specs.code.Reader.{readHead};
 ghost use Rattle.sheets.specs.code.FirstLines.{firstOf, ByNumbers};
 
-// The ellipsoid and the place of line 2; or a number of it is out of range; or the bytes begin with no line 1.
+// The ellipsoid and the place of line 2; or that place, where a number of line 1 is out of range; or the bytes begin with no line 1.
 pub enum FirstLine {
     Is(Ellipsoid, usize),
-    OutOfRange,
+    OutOfRange(usize),
     Bad,
 }
 
@@ -53,7 +53,7 @@ fn by_numbers(s: &[u8], first: usize, second: usize, next: usize) -> FirstLine
         let e = Ellipsoid::new(Length::from_metres(radius), inverse);
         return FirstLine::Is(e, next);
     }
-    FirstLine::OutOfRange
+    FirstLine::OutOfRange(next)
 }
 
 pub fn first_line(s: &[u8]) -> FirstLine

@@ -5,8 +5,8 @@ use crate::head::head;
 use crate::lines::LineRead;
 use crate::lines::line;
 ghost use mathlib.Core.Path.{_≡_};
-ghost use Rattle.sheets.specs.code.Reader.{readLine, readHead, readSheet};
-ghost use Rattle.sheets.specs.code.Views.{place, formOf};
+ghost use Rattle.sheets.specs.code.Reader.{readLine, readHead, readLines, readSheet};
+ghost use Rattle.sheets.specs.code.Views.{place, linesForm, formOf};
 
 // How many lines there are, or the number of the first that is not of the grammar, 97 where there are more than 96.
 pub enum FormRead {
@@ -37,14 +37,10 @@ pub fn line_end(s: &[u8], at: usize) -> Read
     }
 }
 
-// The form pass. `number` is the number of the line at `at`: one more than the LFs before it, and each line ends in the next LF.
-pub fn form(s: &[u8]) -> FormRead
-    ensures { λ r. ⌜ r ≡ formOf (readSheet (now (s .entry))) ⌝ }
+// The form pass over the lines from line 2, which stands at `start`. `number` is the number of the line at `at`: one more than the LFs before it, and each line ends in the next LF.
+pub fn form_lines(s: &[u8], start: usize) -> FormRead
+    ensures { λ r. ⌜ r ≡ linesForm 2 (readLines 95 2 0 (now (s .entry)) start) ⌝ }
 {
-    let h = head_end(s);
-    let Read::At(start) = h else {
-        return FormRead::Bad(1);
-    };
     let mut at = start;
     let mut number: usize = 2;
     while at < s.len() {
@@ -59,4 +55,15 @@ pub fn form(s: &[u8]) -> FormRead
         number += 1;
     }
     FormRead::Fine(number - 1)
+}
+
+// The form pass.
+pub fn form(s: &[u8]) -> FormRead
+    ensures { λ r. ⌜ r ≡ formOf (readSheet (now (s .entry))) ⌝ }
+{
+    let h = head_end(s);
+    match h {
+        Read::Bad => FormRead::Bad(1),
+        Read::At(start) => form_lines(s, start),
+    }
 }

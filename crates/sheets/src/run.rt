@@ -4,8 +4,6 @@ use crate::admit::admit;
 use crate::answers::RunAnswer;
 use crate::answers::run_answer;
 use crate::check::is_sized;
-use crate::first_line::FirstLine;
-use crate::first_line::first_line;
 use crate::lines_run::run_lines;
 ghost use Rattle.sheets.specs.Answers.{RunOwes};
 
@@ -27,13 +25,6 @@ pub fn run(sheet: &[u8], readings: &[f64], out: &mut [u8]) -> RunAnswer
     let outcome = a.outcome;
     match outcome {
         Outcome::Refuses(number, line) => run_answer(number, line, 0),
-        Outcome::Passes(_) => {
-            let f = first_line(sheet);
-            match f {
-                FirstLine::Is(e, start) => run_lines(sheet, start, e, readings, out),
-                FirstLine::OutOfRange => run_answer(4, 1, 0),
-                FirstLine::Bad => run_answer(3, 1, 0),
-            }
-        }
+        Outcome::Passes(_, e, start) => run_lines(sheet, start, e, readings, out),
     }
 }

@@ -10,10 +10,10 @@ use Rattle.sheets.specs.Machine.{surface}
 use Rattle.sheets.specs.Answers.{ranged}
 use Rattle.sheets.specs.declared.first_line.FirstLine.{FirstLine}
 
--- the ellipsoid and the place of line 2, where refusal 4 lets it pass
+-- the place of line 2, with the ellipsoid where refusal 4 lets it pass
 unfoldable pub firstIn : Bool → Head → ℕ → FirstLine
 firstIn true h n = FirstLine.Is (surface h) n
-firstIn false h n = FirstLine.OutOfRange
+firstIn false h n = FirstLine.OutOfRange n
 
 unfoldable pub firstOf : Got Head → FirstLine
 firstOf none = FirstLine.Bad

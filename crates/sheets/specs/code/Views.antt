@@ -92,6 +92,11 @@ HeadAnswer s (got (custom p q) n) r =
 
 -- ---- the sheet
 
+-- the number of the last line, or the first that is not of the grammar, where the lines from line i on come to this
+unfoldable pub linesForm : ℕ → Form (List Line) → FormRead
+linesForm i (formed ls) = FormRead.Fine (i - 1 + length ls)
+linesForm i (badLine j) = FormRead.Bad j
+
 -- how many lines it has, or the first that is not of the grammar
 unfoldable pub formOf : Form Sheet → FormRead
 formOf (formed c) = FormRead.Fine (length (c .lines) + 1)

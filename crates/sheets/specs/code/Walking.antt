@@ -1,11 +1,12 @@
 -- What the pieces of the check answer, said of the walk of Check.antt over what the reader of Reader.antt reads.
 -- No part of what must be believed: they only tie the code to the definitions.
-use Prim.Native.Nat.{ℕ, zero, suc, _≤_}
+use Prim.Native.Nat.{ℕ, zero, suc, _+_, _≤_}
 use mathlib.Core.Path.{_≡_}
 use mathlib.Core.Bool.{Bool, true, false, _&&_, _||_}
 use mathlib.Core.List.{List, _∷_}
 use lib.Dec.{eqb, leb}
 use lib.ListN.{length, getD, take}
+use Rattle.frames.specs.declared.ellipsoid.Ellipsoid.{Ellipsoid}
 use Rattle.sheets.specs.Text.{Word}
 use Rattle.sheets.specs.Trees.{Expr, Exprs, Line, let-line, show-line, numbered}
 use Rattle.sheets.specs.Grammar.{IsWord}
@@ -18,6 +19,7 @@ use Rattle.sheets.specs.code.Newest.{searchFrom, Newest}
 use Rattle.sheets.specs.code.KindCodes.{keyFrom, kindOr255}
 use Rattle.sheets.specs.Refusals.{name, Refusal, fault, refusalNumber, Checked, fine, bad, thenᶜ, known?}
 use Rattle.sheets.specs.Check.{kindOfExpr, kindsOfExprs, Walked, passes, refuses, stepsᶜ, startᶜ}
+use Rattle.sheets.specs.Machine.{surface}
 use Rattle.sheets.specs.Answers.{Verdict, admitted, refused}
 use Rattle.sheets.specs.declared.kind_walk.KindRead.{KindRead}
 use Rattle.sheets.specs.declared.kind_walk.KeyRead.{KeyRead}
@@ -105,23 +107,23 @@ pub record BarredWord (code : ℕ) (ps : Known Kind) (r : Bool) : Type 0 where
 
 -- ---- a sheet
 
--- as many lines as kind codes, and these codes
-abbrev pub Passing : List ℕ → Admission → Type 0
-Passing cs a = (a .outcome ≡ Outcome.Passes (length cs)) × (length cs ≤ 96) × (take (length cs) (a .codes) ≡ cs)
+-- as many lines as kind codes, this ellipsoid and this place of line 2; and these codes
+abbrev pub Passing : List ℕ → Ellipsoid → ℕ → Admission → Type 0
+Passing cs e at a = (a .outcome ≡ Outcome.Passes (length cs) e at) × (length cs ≤ 96) × (take (length cs) (a .codes) ≡ cs)
 
 -- the refusal's number and its line
 abbrev pub Refusing : Refusal → ℕ → Admission → Type 0
 Refusing f j a = a .outcome ≡ Outcome.Refuses (refusalNumber f) j
 
-unfoldable pub Walks : Walked → Admission → Type 0
-Walks (passes cs) a = Passing (255 ∷ cs) a
-Walks (refuses f j) a = Refusing (fault f) j a
+unfoldable pub Walks : Walked → Ellipsoid → ℕ → Admission → Type 0
+Walks (passes cs) e at a = Passing (255 ∷ cs) e at a
+Walks (refuses f j) e at a = Refusing (fault f) j a
 
--- a answers the lines from line 2, which stands at this place
-pub record LinesWalk (s : List ℕ) (at : ℕ) (a : Admission) : Type 0 where
-  pub is : (ls : List Line) → readLines 95 2 0 s at ≡ formed ls → Walks (stepsᶜ (numbered 2 ls) startᶜ) a
+-- a answers the lines from line 2, which stands at this place, of a sheet of so many lines
+pub record LinesWalk (s : List ℕ) (at lines : ℕ) (e : Ellipsoid) (a : Admission) : Type 0 where
+  pub is : (ls : List Line) → readLines 95 2 0 s at ≡ formed ls → lines ≡ length ls + 1 → Walks (stepsᶜ (numbered 2 ls) startᶜ) e at a
 
--- a answers a whole sheet: refusals 3 to 6, or the kind code of each line
-unfoldable pub Admits : Verdict → Admission → Type 0
-Admits (admitted c cs) a = Passing cs a
-Admits (refused f j) a = Refusing f j a
+-- a answers a whole sheet: refusals 3 to 6, or the kind code of each line, the ellipsoid and the place of line 2
+unfoldable pub Admits : List ℕ → Verdict → Admission → Type 0
+Admits s (admitted c cs) a = (at : ℕ) × (readLines 95 2 0 s at ≡ formed (c .lines)) × Passing cs (surface (c .head)) at a
+Admits s (refused f j) a = Refusing f j a

@@ -23,7 +23,7 @@ enum-known-outcome-2 : tie.Need-enum-known-outcome-2
 enum-known-outcome-2 c = search needs
 
 put-codes-requires : tie.Need-put-codes-requires
-put-codes-requires c κs = (few-lines _ _ (c .before .before .before .before .before .admit .ensures) _ (c .before .before .outcome2 .given .1), c .before .before .before .before .before .before .if2 .left)
+put-codes-requires c κs = (few-lines _ _ _ (c .before .before .before .before .before .admit .ensures) _ _ _ (c .before .before .outcome2 .given .1), c .before .before .before .before .before .before .if2 .left)
 
 returns-3 : tie.Need-returns-3
 returns-3 c = check-refused _ _ (c .before .before .before .before .before .before .before .is-sized .ensures) _ (c .before .before .before .before .before .before .if1 .left) (c .before .before .before .before .before .if2 .left) _ (c .before .before .before .before .admit .ensures) _ _ (c .before .outcome .given .1)
@@ -32,7 +32,7 @@ same-length : tie.Need-same-length
 same-length c = c .before .before .put-codes .kept .1 .1 .0
 
 returns-4 : tie.Need-returns-4
-returns-4 c = check-passes _ _ (c .before .before .before .before .before .before .before .before .before .before .before .is-sized .ensures) _ (c .before .before .before .before .before .before .before .before .before .before .if1 .left) (c .before .before .before .before .before .before .before .before .before .if2 .left) _ (c .before .before .before .before .before .before .before .before .admit .ensures) _ (c .before .before .before .before .before .outcome2 .given .1) _ (c .before .before .put-codes .ensures)
+returns-4 c = check-passes _ _ (c .before .before .before .before .before .before .before .before .before .before .before .is-sized .ensures) _ (c .before .before .before .before .before .before .before .before .before .before .if1 .left) (c .before .before .before .before .before .before .before .before .before .if2 .left) _ (c .before .before .before .before .before .before .before .before .admit .ensures) _ _ _ (c .before .before .before .before .before .outcome2 .given .1) _ (c .before .before .put-codes .ensures)
 
 pub check-spec : {M : Type 1} → statement M
 check-spec =

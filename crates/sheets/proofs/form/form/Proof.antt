@@ -1,95 +1,27 @@
 -- `sheets::form::form` meets its contract. Assumes nothing.
-use native.Mathlib.Omega.{arith}
-use Prim.Native.Nat.{_-_}
+use mathlib.Core.Path.{_∙_}
 use borrow.Author.Needs.{needs}
-use Rattle.sheets.proofs.FormSteps.{Reached, number-start, number-next, form-no-head, form-start, form-done, form-over, form-bad, form-more}
+use Rattle.sheets.proofs.FormSteps.{form-no-head, form-whole}
 use Rattle.sheets.proofs.form.form.Statement.{statement}
 use Rattle.sheets.proofs.form.form.Tie as tie
 
-abbrev Inv-loop : tie.InvT-loop
-Inv-loop s start at₀ number₀ at number = Reached s at number
-
-abbrev μ-loop : tie.MeasureT-loop
-μ-loop s start at₀ number₀ at number = 97 - number
-
-head-end-requires : tie.Need-head-end-requires Inv-loop μ-loop
+head-end-requires : tie.Need-head-end-requires
 head-end-requires c κs = search needs
 
-enum-known-h : tie.Need-enum-known-h Inv-loop μ-loop
-enum-known-h c = search needs
-
-enum-told : tie.Need-enum-told Inv-loop μ-loop
+enum-told : tie.Need-enum-told
 enum-told c = search needs
 
-returns : tie.Need-returns Inv-loop μ-loop
+enum-known-h : tie.Need-enum-known-h
+enum-known-h c = search needs
+
+form-lines-requires : tie.Need-form-lines-requires
+form-lines-requires c κs = search needs
+
+returns : tie.Need-returns
 returns c = form-no-head _ _ (c .before .before .head-end .ensures) (c .enum-told .given .1)
 
-loop-holds : tie.Need-loop-holds Inv-loop μ-loop
-loop-holds c = record {
-  low = omega arith;
-  high = omega arith;
-  counts = number-start _ _ (c .before .before .before .head-end .ensures) _ (c .before .h .given .1);
-  phase = 0;
-  rest = form-start _ _ (c .before .before .before .head-end .ensures) _ (c .before .h .given .1);
-}
-
-returns-2 : tie.Need-returns-2 Inv-loop μ-loop
-returns-2 c = form-over _ _ _ _ (c .before .before .loop .inv .low) _ (c .before .before .loop .inv .rest) (c .before .loop-test .taken) (c .if1 .taken)
-
-line-end-requires : tie.Need-line-end-requires Inv-loop μ-loop
-line-end-requires c κs = search needs
-
-enum-known-r : tie.Need-enum-known-r Inv-loop μ-loop
-enum-known-r c = search needs
-
-enum-told-2 : tie.Need-enum-told-2 Inv-loop μ-loop
-enum-told-2 c = search needs
-
-returns-3 : tie.Need-returns-3 Inv-loop μ-loop
-returns-3 c = form-bad _ _ _ _ (c .before .before .before .before .before .loop .inv .low) _ (c .before .before .before .before .before .loop .inv .rest) (c .before .before .before .before .loop-test .taken) (c .before .before .before .if1 .left) _ (c .before .before .line-end .ensures) (c .enum-told2 .given .1)
-
-add-number : tie.Need-add-number Inv-loop μ-loop
-add-number c = omega arith
-
-loop-less : tie.Need-loop-less Inv-loop μ-loop
-loop-less c = omega arith
-
-loop-again : tie.Need-loop-again Inv-loop μ-loop
-loop-again c =
-    let v = c .before .before .before .before .before .before .loop .inv in
-    let m = form-more _ _ _ _ (v .low) _ (v .rest) (c .before .before .before .before .before .loop-test .taken) (c .before .before .before .before .if1 .left) _ (c .before .before .before .line-end .ensures) _ (c .before .r .given .1) in
-    record {
-      low = omega (arith, v .low);
-      high = omega arith;
-      counts = number-next _ _ _ (c .before .before .before .line-end .ensures) _ (c .before .r .given .1) _ (v .counts);
-      phase = m .0;
-      rest = m .1;
-    }
-
-sub-t10 : tie.Need-sub-t10 Inv-loop μ-loop
-sub-t10 c = omega arith
-
-returns-4 : tie.Need-returns-4 Inv-loop μ-loop
-returns-4 c = form-done _ _ _ _ (c .before .loop .inv .low) _ (c .before .loop .inv .rest) (c .loop-test .left)
+returns-2 : tie.Need-returns-2
+returns-2 c = c .form-lines .ensures ∙ form-whole _ _ (c .before .before .before .before .head-end .ensures) _ (c .before .before .h .given .1)
 
 pub form-spec : {M : Type 1} → statement M
-form-spec =
-    tie.close
-    (tie.spec
-    Inv-loop
-    μ-loop
-    head-end-requires
-    enum-known-h
-    enum-told
-    returns
-    loop-holds
-    returns-2
-    line-end-requires
-    enum-known-r
-    enum-told-2
-    returns-3
-    add-number
-    loop-less
-    loop-again
-    sub-t10
-    returns-4)
+form-spec = tie.close (tie.spec head-end-requires enum-told enum-known-h form-lines-requires returns returns-2)

@@ -1,5 +1,5 @@
 -- `sheets::run::run` meets its contract. Assumes nothing.
-use Rattle.sheets.proofs.AnswerSteps.{range-not-is, bad-not-is, run-size, run-readings, run-out, run-refused, run-no-other, run-lines}
+use Rattle.sheets.proofs.AnswerSteps.{run-size, run-readings, run-out, run-refused, run-lines}
 use borrow.Author.Needs.{needs}
 use Rattle.sheets.proofs.run.run.Statement.{statement}
 use Rattle.sheets.proofs.run.run.Tie as tie
@@ -34,29 +34,11 @@ enum-known-outcome c = search needs
 run-answer-requires-4 : tie.Need-run-answer-requires-4
 run-answer-requires-4 c κs = search needs
 
-enum-told : tie.Need-enum-told
-enum-told c = search needs
-
-first-line-requires : tie.Need-first-line-requires
-first-line-requires c κs = search needs
-
-enum-known-f : tie.Need-enum-known-f
-enum-known-f c = search needs
+enum-known-outcome-2 : tie.Need-enum-known-outcome-2
+enum-known-outcome-2 c = search needs
 
 run-lines-requires : tie.Need-run-lines-requires
 run-lines-requires c κs = search needs
-
-enum-told-2 : tie.Need-enum-told-2
-enum-told-2 c = search needs
-
-run-answer-requires-5 : tie.Need-run-answer-requires-5
-run-answer-requires-5 c κs = search needs
-
-enum-told-3 : tie.Need-enum-told-3
-enum-told-3 c = search needs
-
-run-answer-requires-6 : tie.Need-run-answer-requires-6
-run-answer-requires-6 c κs = search needs
 
 returns-4 : tie.Need-returns-4
 returns-4 c = run-refused _ _ (c .before .before .before .before .before .before .before .before .is-sized .ensures) _ _ (c .before .before .before .before .before .before .before .if1 .left) (c .before .before .before .before .before .before .if2 .left) (c .before .before .before .before .before .if3 .left) _ (c .before .before .before .before .admit .ensures) _ _ (c .before .before .outcome .given .1) _ (c .run-answer4 .ensures)
@@ -65,13 +47,7 @@ same-length : tie.Need-same-length
 same-length c = c .before .before .run-lines .kept .1 .1 .1 .1 .0
 
 returns-5 : tie.Need-returns-5
-returns-5 c = run-lines _ _ (c .before .before .before .before .before .before .before .before .before .before .before .before .before .before .is-sized .ensures) _ _ (c .before .before .before .before .before .before .before .before .before .before .before .before .before .if1 .left) (c .before .before .before .before .before .before .before .before .before .before .before .before .if2 .left) (c .before .before .before .before .before .before .before .before .before .before .before .if3 .left) _ (c .before .before .before .before .before .before .before .before .before .before .admit .ensures) _ (c .before .before .before .before .before .before .before .before .enum-told .given .1) _ (c .before .before .before .before .before .before .before .first-line .ensures) _ _ (c .before .before .before .before .before .f .given .1) _ _ (c .before .before .run-lines .ensures)
-
-returns-6 : tie.Need-returns-6
-returns-6 c = run-no-other _ _ (c .before .before .before .before .before .before .before .before .before .before .is-sized .ensures) _ _ (c .before .before .before .before .before .before .before .before .before .if1 .left) (c .before .before .before .before .before .before .before .before .if2 .left) (c .before .before .before .before .before .before .before .if3 .left) _ (c .before .before .before .before .before .before .admit .ensures) _ (c .before .before .before .before .enum-told .given .1) _ (c .before .before .before .first-line .ensures) _ (c .before .enum-told2 .given .1) range-not-is _ _
-
-returns-7 : tie.Need-returns-7
-returns-7 c = run-no-other _ _ (c .before .before .before .before .before .before .before .before .before .before .is-sized .ensures) _ _ (c .before .before .before .before .before .before .before .before .before .if1 .left) (c .before .before .before .before .before .before .before .before .if2 .left) (c .before .before .before .before .before .before .before .if3 .left) _ (c .before .before .before .before .before .before .admit .ensures) _ (c .before .before .before .before .enum-told .given .1) _ (c .before .before .before .first-line .ensures) _ (c .before .enum-told3 .given .1) bad-not-is _ _
+returns-5 c = run-lines _ _ (c .before .before .before .before .before .before .before .before .before .before .before .is-sized .ensures) _ _ (c .before .before .before .before .before .before .before .before .before .before .if1 .left) (c .before .before .before .before .before .before .before .before .before .if2 .left) (c .before .before .before .before .before .before .before .before .if3 .left) _ (c .before .before .before .before .before .before .before .admit .ensures) _ _ _ (c .before .before .before .before .before .outcome2 .given .1) _ _ (c .before .before .run-lines .ensures)
 
 pub run-spec : {M : Type 1} → statement M
 run-spec =
@@ -87,16 +63,8 @@ run-spec =
     admit-requires
     enum-known-outcome
     run-answer-requires-4
-    enum-told
-    first-line-requires
-    enum-known-f
+    enum-known-outcome-2
     run-lines-requires
-    enum-told-2
-    run-answer-requires-5
-    enum-told-3
-    run-answer-requires-6
     returns-4
     same-length
-    returns-5
-    returns-6
-    returns-7)
+    returns-5)
