@@ -15,7 +15,7 @@ use Rattle.sheets.specs.code.Reader.{got, readNum, readHead}
 use Rattle.sheets.specs.Limits.{numValue, between}
 use Rattle.sheets.specs.Machine.{surface}
 use Rattle.sheets.specs.Answers.{ranged}
-use Rattle.sheets.specs.code.Views.{doubled, HeadAnswer}
+use Rattle.sheets.specs.code.Views.{doubled, headBy}
 use Rattle.sheets.specs.declared.num.DoubleRead.{DoubleRead}
 use Rattle.sheets.specs.declared.head.HeadRead.{HeadRead}
 use Rattle.sheets.proofs.Viewed.{doubled-none, doubled-got}
@@ -70,15 +70,15 @@ module _ (s : List ℕ) (a b n : ℕ) (v : DoubleRead) (ev : v ≡ doubled (read
 
 -- ---- line 1
 
-module _ (s : List ℕ) (r : HeadRead) (t : HeadAnswer s (readHead s) r) where
+module _ (s : List ℕ) (r : HeadRead) (t : r ≡ headBy 11 (readHead s)) where
   pub first-bad : r ≡ HeadRead.Bad → FirstLine.Bad ≡ firstOf (readHead s)
   unfolding firstOf
-  first-bad h = rw (told-no-head s (readHead s) r t h) refl
+  first-bad h = rw (told-no-head (readHead s) r t h) refl
 
   pub first-wgs : (n : ℕ) → r ≡ HeadRead.Wgs n → (o : Ellipsoid) → o ≡ surfaceWgs84 → FirstLine.Is o n ≡ firstOf (readHead s)
   unfolding firstOf firstIn ranged surface
-  first-wgs n h o eo = rw (told-wgs s (readHead s) r t n h) (ap (λ z. FirstLine.Is z n) eo)
+  first-wgs n h o eo = rw (told-wgs (readHead s) r t n h) (ap (λ z. FirstLine.Is z n) eo)
 
   pub first-custom : (a b n : ℕ) → r ≡ HeadRead.Custom a b n → (f : FirstLine) → ByNumbers s a b n f → f ≡ firstOf (readHead s)
   unfolding firstOf
-  first-custom a b n h f hf = let (p, q, m, e, eo, ep, eq) = told-custom s (readHead s) r t a b n h in hf .is p q m e ep eq ∙ sym (ap firstOf eo)
+  first-custom a b n h f hf = let (p, q, m, e, eo, ep, eq) = told-custom s r t a b n h in hf .is p q m e ep eq ∙ sym (ap firstOf eo)

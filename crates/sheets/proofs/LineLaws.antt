@@ -10,8 +10,9 @@ use Rattle.sheets.specs.Trees.{Expr, Line, let-line, show-line}
 use Rattle.sheets.specs.Grammar.{IsWord, IsExpr, print, printLine, LineParts, IsLine}
 use Rattle.sheets.specs.code.Codes.{letter, wordChar, codeFrom, codeOf}
 use Rattle.sheets.specs.code.Reader.{got, _then_, charsIf, chars, wordIf, readWord, readExpr, orElse, opening, spaced, limit, readLet, readShow, lineOf, readLine}
+use Rattle.sheets.specs.code.Views.{wordPlace}
 use Rattle.sheets.proofs.ReaderLaws.{then-got, byte-inside, limit-is}
-use Rattle.sheets.proofs.Spans.{Spans, spans-append, spans-split, spans-end, Holds, holds-none, holds-then, holds-or, holds-map}
+use Rattle.sheets.proofs.Spans.{Spans, spans-append, spans-split, spans-end, Holds, holds-none, holds-then, holds-at, holds-or, holds-map}
 use Rattle.sheets.proofs.TokenLaws.{WordAt, word-sound, word-complete}
 use Rattle.sheets.proofs.ExprLaws.{ExprAt, expr-sound, expr-complete}
 use Rattle.sheets.proofs.CodeLaws.{word-by}
@@ -105,3 +106,17 @@ line-complete s (show-line w) at n p h =
     line-opens s (show-line w) (ascii "show") at m n p (h .1)
     (open-complete s (ascii "show") at m q show-word (space-first s (w ++ close) m n r))
     (show-complete s w at m n (h .0) r)
+
+-- where the word that opens a line ends, and its own word after it begins
+pub line-opened : (s : List ℕ) (at : ℕ) (l : Line) (n : ℕ) → readLine s at ≡ got l n → (v : Word) (m : ℕ) → opening s at ≡ got v m → m + 1 ≡ at + wordPlace l
+line-opened s at l n e v m eo = go l (holds-at (LineStands s at) (readLine s at) l n (line-sound s at) e .0)
+  where
+    at-end : (u t : Word) (k : ℕ) → IsWord u → Spans s (40 ∷ u) at k → Spans s (32 ∷ t) k n → m ≡ at + length (40 ∷ u)
+    at-end u t k h p r =
+        let i = open-complete s u at k p h (space-first s t k n r) in
+        let j : m ≡ k = cc in
+        j ∙ spans-end s (40 ∷ u) at k p
+
+    go : (l : Line) → Spans s (printLine l) at n → m + 1 ≡ at + wordPlace l
+    go (let-line w x) p = let (k, q, r) = spans-split s (ascii "(let") (32 ∷ (w ++ (32 ∷ (print x ++ close)))) at n p in omega (arith, at-end (ascii "let") _ k let-word q r)
+    go (show-line w) p = let (k, q, r) = spans-split s (ascii "(show") (32 ∷ (w ++ close)) at n p in omega (arith, at-end (ascii "show") _ k show-word q r)

@@ -8,8 +8,9 @@ use crate::lines::word_slot;
 use crate::num::NumRead;
 use crate::num::num;
 ghost use mathlib.Core.Path.{_≡_};
+ghost use Prim.Native.Nat.{_+_};
 ghost use Rattle.sheets.specs.code.Reader.{readWord, readNum, spaced, readCustom, wgsOr, readHead};
-ghost use Rattle.sheets.specs.code.Views.{counted, HeadAnswer};
+ghost use Rattle.sheets.specs.code.Views.{counted, headBy};
 
 // Line 1: the places of its two numbers, where it has them, and the place of the next line.
 pub enum HeadRead {
@@ -36,7 +37,7 @@ fn num_slot(s: &[u8], at: usize) -> NumRead
 
 // The rest of line 1 after `(ellipsoid`, where it has two numbers.
 fn custom(s: &[u8], at: usize) -> HeadRead
-    ensures { λ r. ⌜ HeadAnswer (now (s .entry)) (readCustom (now (s .entry)) at) r ⌝ }
+    ensures { λ r. ⌜ r ≡ headBy (at + 1) (readCustom (now (s .entry)) at) ⌝ }
 {
     let p = num_slot(s, at);
     let NumRead::Is(x) = p else {
@@ -55,7 +56,7 @@ fn custom(s: &[u8], at: usize) -> HeadRead
 
 // The rest of line 1 after `(ellipsoid`: where a word follows it must be wgs84.
 fn wgs_or(s: &[u8], at: usize) -> HeadRead
-    ensures { λ r. ⌜ HeadAnswer (now (s .entry)) (wgsOr (spaced (readWord (now (s .entry))) (now (s .entry)) at) (now (s .entry)) at) r ⌝ }
+    ensures { λ r. ⌜ r ≡ headBy (at + 1) (wgsOr (spaced (readWord (now (s .entry))) (now (s .entry)) at) (now (s .entry)) at) ⌝ }
 {
     let w = word_slot(s, at);
     let WordRead::Is(code, n) = w else {
@@ -71,9 +72,9 @@ fn wgs_or(s: &[u8], at: usize) -> HeadRead
     HeadRead::Bad
 }
 
-// Line 1, of at most 200 bytes.
+// Line 1, of at most 200 bytes: its first number stands at 11.
 pub fn head(s: &[u8]) -> HeadRead
-    ensures { λ r. ⌜ HeadAnswer (now (s .entry)) (readHead (now (s .entry))) r ⌝ }
+    ensures { λ r. ⌜ r ≡ headBy 11 (readHead (now (s .entry))) ⌝ }
 {
     let k = opening(s, 0);
     let WordRead::Is(code, n) = k else {

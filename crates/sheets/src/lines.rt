@@ -5,8 +5,9 @@ use crate::bytes::word;
 use crate::expr::Read;
 use crate::expr::expr;
 ghost use mathlib.Core.Path.{_≡_};
+ghost use Prim.Native.Nat.{_+_};
 ghost use Rattle.sheets.specs.code.Reader.{readWord, readExpr, opening, spaced, readLet, readShow, lineOf, readLine};
-ghost use Rattle.sheets.specs.code.Views.{place, closed, coded, LineAnswer};
+ghost use Rattle.sheets.specs.code.Views.{place, closed, coded, lineBy, wordPlace};
 
 // A line's word: its code, the place of its first byte, and the place after it.
 pub struct NameAt {
@@ -81,7 +82,7 @@ pub fn closing(s: &[u8], at: usize) -> Read
 
 // The rest of a line after `(let`.
 fn let_line(s: &[u8], at: usize) -> LineRead
-    ensures { λ r. ⌜ LineAnswer (now (s .entry)) (readLet (now (s .entry)) at) r ⌝ }
+    ensures { λ r. ⌜ r ≡ lineBy (λ l. at + 1) (readLet (now (s .entry)) at) ⌝ }
 {
     let w = word_slot(s, at);
     let WordRead::Is(code, n) = w else {
@@ -106,7 +107,7 @@ fn let_line(s: &[u8], at: usize) -> LineRead
 
 // The rest of a line after `(show`.
 fn show_line(s: &[u8], at: usize) -> LineRead
-    ensures { λ r. ⌜ LineAnswer (now (s .entry)) (readShow (now (s .entry)) at) r ⌝ }
+    ensures { λ r. ⌜ r ≡ lineBy (λ l. at + 1) (readShow (now (s .entry)) at) ⌝ }
 {
     let w = word_slot(s, at);
     let WordRead::Is(code, n) = w else {
@@ -132,7 +133,7 @@ pub const SHOW: u64 = 973937;
 
 // The rest of a line that opens with the word of this code.
 fn line_of(s: &[u8], code: u64, at: usize) -> LineRead
-    ensures { λ r. ⌜ LineAnswer (now (s .entry)) (lineOf (now (s .entry)) code at) r ⌝ }
+    ensures { λ r. ⌜ r ≡ lineBy (λ l. at + 1) (lineOf (now (s .entry)) code at) ⌝ }
 {
     match code {
         LET => let_line(s, at),
@@ -141,9 +142,9 @@ fn line_of(s: &[u8], code: u64, at: usize) -> LineRead
     }
 }
 
-// The line at a place, of at most 200 bytes.
+// The line at a place, of at most 200 bytes: a let's word stands 5 places on, a show's 6.
 pub fn line(s: &[u8], at: usize) -> LineRead
-    ensures { λ r. ⌜ LineAnswer (now (s .entry)) (readLine (now (s .entry)) at) r ⌝ }
+    ensures { λ r. ⌜ r ≡ lineBy (λ l. at + wordPlace l) (readLine (now (s .entry)) at) ⌝ }
 {
     let k = opening(s, at);
     let WordRead::Is(code, n) = k else {

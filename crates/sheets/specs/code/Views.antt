@@ -6,8 +6,9 @@ use mathlib.Core.List.{List}
 use lib.ListN.{length, getD}
 use Rattle.sheets.specs.Text.{Word}
 use Rattle.sheets.specs.Trees.{Num, decimalFrom, numDigits, Line, let-line, show-line, Head, wgs84, custom, Sheet}
+use Rattle.sheets.specs.Grammar.{printNum}
 use Rattle.sheets.specs.code.Codes.{codeOf}
-use Rattle.sheets.specs.code.Reader.{Got, none, got, readWord, readNum, readExpr, closing, Form, formed, badLine}
+use Rattle.sheets.specs.code.Reader.{Got, none, got, closing, Form, formed, badLine}
 use Rattle.sheets.specs.Limits.{numValue}
 use Rattle.sheets.specs.declared.bytes.WordRead.{WordRead}
 use Rattle.sheets.specs.declared.num.DigitsRead.{DigitsRead}
@@ -69,26 +70,30 @@ doubled (got q n) = DoubleRead.Is (numValue q) n
 
 -- ---- lines
 
--- the word w, which stands from the one place to the other
-abbrev pub nameAt : Word → ℕ → ℕ → NameAt
-nameAt w at m = record { code = codeOf w; from = at; end = m }
+-- the word w, which stands at a place
+abbrev pub nameAt : Word → ℕ → NameAt
+nameAt w at = record { code = codeOf w; from = at; end = at + length w }
 
--- the parts of a line: its word, and where its expression begins
-unfoldable pub Parts : List ℕ → Line → LineForm → Type 0
-Parts s (let-line w x) f = (at m e : ℕ) × (f ≡ LineForm.Let (nameAt w at m) (m + 1)) × (readWord s at ≡ got w m) × (readExpr 11 s (m + 1) ≡ got x e)
-Parts s (show-line w) f = (at m : ℕ) × (f ≡ LineForm.Show (nameAt w at m)) × (readWord s at ≡ got w m)
+-- the parts of a line whose word stands at a place: the word, and a let's expression one place after the word's end
+unfoldable pub partsAt : Line → ℕ → LineForm
+partsAt (let-line w x) at = LineForm.Let (nameAt w at) (at + length w + 1)
+partsAt (show-line w) at = LineForm.Show (nameAt w at)
 
--- r answers a line that the reader reads: its parts, and the place of the next line
-unfoldable pub LineAnswer : List ℕ → Got Line → LineRead → Type 0
-LineAnswer s none r = r ≡ LineRead.Bad
-LineAnswer s (got l n) r = (f : LineForm) × (r ≡ LineRead.Is (record { form = f; next = n })) × Parts s l f
+-- the parts of a line, whose word stands where `word` says, and the place of the next line
+unfoldable pub lineBy : (Line → ℕ) → Got Line → LineRead
+lineBy word none = LineRead.Bad
+lineBy word (got l n) = LineRead.Is (record { form = partsAt l (word l); next = n })
 
--- r answers line 1: the places of its two numbers, where it has them, and the place of the next line
-unfoldable pub HeadAnswer : List ℕ → Got Head → HeadRead → Type 0
-HeadAnswer s none r = r ≡ HeadRead.Bad
-HeadAnswer s (got wgs84 n) r = r ≡ HeadRead.Wgs n
-HeadAnswer s (got (custom p q) n) r =
-    (at m e : ℕ) × (r ≡ HeadRead.Custom at (m + 1) n) × (readNum s at ≡ got p m) × (readNum s (m + 1) ≡ got q e)
+-- how far from its line's place a word stands: behind `(let ` or `(show `
+abbrev pub wordPlace : Line → ℕ
+wordPlace (let-line w x) = 5
+wordPlace (show-line w) = 6
+
+-- line 1: the places of its two numbers, where it has them, the first and one after its end; and the place of the next line
+unfoldable pub headBy : ℕ → Got Head → HeadRead
+headBy first none = HeadRead.Bad
+headBy first (got wgs84 n) = HeadRead.Wgs n
+headBy first (got (custom p q) n) = HeadRead.Custom first (first + length (printNum p) + 1) n
 
 -- ---- the sheet
 

@@ -1,7 +1,7 @@
 -- `sheets::newest::word_place` meets its contract. Assumes nothing.
 use native.Mathlib.Omega.{arith}
 use Prim.Native.Nat.{_≤_}
-use mathlib.Core.Path.{_≡_, refl, _∙_}
+use mathlib.Core.Path.{_≡_, _∙_}
 use borrow.Author.Needs.{needs}
 use Rattle.sheets.specs.code.Newest.{searchFrom, placeFrom}
 use Rattle.sheets.proofs.NewestLaws.{search-none, search-some, place-here, place-before, place-last}
