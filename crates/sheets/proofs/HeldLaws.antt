@@ -19,7 +19,7 @@ use Rattle.frames.specs.declared.frame.LocalFrame.{LocalFrame}
 use Rattle.sheets.proofs.value.Value as value
 use Rattle.sheets.specs.declared.value.Value.{Value}
 use Rattle.sheets.specs.declared.value.Value.the-variants.{Number, Radians, Metres, Geocentric, Geodetic, Vector, Frame}
-use Rattle.sheets.specs.Letters.{Letter, 𝐧, 𝐚, 𝐥, 𝐠, 𝐝, 𝐯, 𝐟, held, hold, both}
+use Rattle.sheets.specs.Letters.{Letter, 𝐧, 𝐚, 𝐥, 𝐠, 𝐝, 𝐯, 𝐟, cases, held, hold, both}
 
 both-none : {X Y : Type 0} (o : Option X) → both {X = X} {Y = Y} o none ≡ none
 both-none none = refl
@@ -43,57 +43,18 @@ tag 𝐯 = 5
 tag 𝐟 = 6
 
 -- a value of another variant
-wrong-kind : (ks : List ℕ) (s : Letter) → T (not (hasKey ks (tag s))) → (v : Value) → OneOf ks (tagOf value.the-type v) → held s v ≡ none
+abbrev Wrong : List ℕ → Letter → Value → Type 0
+Wrong ks s v = OneOf ks (tagOf value.the-type v) → held s v ≡ none
+
+wrong-kind : (ks : List ℕ) (s : Letter) → T (not (hasKey ks (tag s))) → (v : Value) → Wrong ks s v
 unfolding held
-wrong-kind ks 𝐧 t (Number x) h = absurd (miss ks 0 t h)
-wrong-kind ks 𝐧 t (Radians x) h = refl
-wrong-kind ks 𝐧 t (Metres x) h = refl
-wrong-kind ks 𝐧 t (Geocentric x) h = refl
-wrong-kind ks 𝐧 t (Geodetic x) h = refl
-wrong-kind ks 𝐧 t (Vector x) h = refl
-wrong-kind ks 𝐧 t (Frame x) h = refl
-wrong-kind ks 𝐚 t (Number x) h = refl
-wrong-kind ks 𝐚 t (Radians x) h = absurd (miss ks 1 t h)
-wrong-kind ks 𝐚 t (Metres x) h = refl
-wrong-kind ks 𝐚 t (Geocentric x) h = refl
-wrong-kind ks 𝐚 t (Geodetic x) h = refl
-wrong-kind ks 𝐚 t (Vector x) h = refl
-wrong-kind ks 𝐚 t (Frame x) h = refl
-wrong-kind ks 𝐥 t (Number x) h = refl
-wrong-kind ks 𝐥 t (Radians x) h = refl
-wrong-kind ks 𝐥 t (Metres x) h = absurd (miss ks 2 t h)
-wrong-kind ks 𝐥 t (Geocentric x) h = refl
-wrong-kind ks 𝐥 t (Geodetic x) h = refl
-wrong-kind ks 𝐥 t (Vector x) h = refl
-wrong-kind ks 𝐥 t (Frame x) h = refl
-wrong-kind ks 𝐠 t (Number x) h = refl
-wrong-kind ks 𝐠 t (Radians x) h = refl
-wrong-kind ks 𝐠 t (Metres x) h = refl
-wrong-kind ks 𝐠 t (Geocentric x) h = absurd (miss ks 3 t h)
-wrong-kind ks 𝐠 t (Geodetic x) h = refl
-wrong-kind ks 𝐠 t (Vector x) h = refl
-wrong-kind ks 𝐠 t (Frame x) h = refl
-wrong-kind ks 𝐝 t (Number x) h = refl
-wrong-kind ks 𝐝 t (Radians x) h = refl
-wrong-kind ks 𝐝 t (Metres x) h = refl
-wrong-kind ks 𝐝 t (Geocentric x) h = refl
-wrong-kind ks 𝐝 t (Geodetic x) h = absurd (miss ks 4 t h)
-wrong-kind ks 𝐝 t (Vector x) h = refl
-wrong-kind ks 𝐝 t (Frame x) h = refl
-wrong-kind ks 𝐯 t (Number x) h = refl
-wrong-kind ks 𝐯 t (Radians x) h = refl
-wrong-kind ks 𝐯 t (Metres x) h = refl
-wrong-kind ks 𝐯 t (Geocentric x) h = refl
-wrong-kind ks 𝐯 t (Geodetic x) h = refl
-wrong-kind ks 𝐯 t (Vector x) h = absurd (miss ks 5 t h)
-wrong-kind ks 𝐯 t (Frame x) h = refl
-wrong-kind ks 𝐟 t (Number x) h = refl
-wrong-kind ks 𝐟 t (Radians x) h = refl
-wrong-kind ks 𝐟 t (Metres x) h = refl
-wrong-kind ks 𝐟 t (Geocentric x) h = refl
-wrong-kind ks 𝐟 t (Geodetic x) h = refl
-wrong-kind ks 𝐟 t (Vector x) h = refl
-wrong-kind ks 𝐟 t (Frame x) h = absurd (miss ks 6 t h)
+wrong-kind ks 𝐧 t = cases (Wrong ks 𝐧) (λ x h. absurd (miss ks 0 t h)) (λ x h. refl) (λ x h. refl) (λ x h. refl) (λ x h. refl) (λ x h. refl) (λ x h. refl)
+wrong-kind ks 𝐚 t = cases (Wrong ks 𝐚) (λ x h. refl) (λ x h. absurd (miss ks 1 t h)) (λ x h. refl) (λ x h. refl) (λ x h. refl) (λ x h. refl) (λ x h. refl)
+wrong-kind ks 𝐥 t = cases (Wrong ks 𝐥) (λ x h. refl) (λ x h. refl) (λ x h. absurd (miss ks 2 t h)) (λ x h. refl) (λ x h. refl) (λ x h. refl) (λ x h. refl)
+wrong-kind ks 𝐠 t = cases (Wrong ks 𝐠) (λ x h. refl) (λ x h. refl) (λ x h. refl) (λ x h. absurd (miss ks 3 t h)) (λ x h. refl) (λ x h. refl) (λ x h. refl)
+wrong-kind ks 𝐝 t = cases (Wrong ks 𝐝) (λ x h. refl) (λ x h. refl) (λ x h. refl) (λ x h. refl) (λ x h. absurd (miss ks 4 t h)) (λ x h. refl) (λ x h. refl)
+wrong-kind ks 𝐯 t = cases (Wrong ks 𝐯) (λ x h. refl) (λ x h. refl) (λ x h. refl) (λ x h. refl) (λ x h. refl) (λ x h. absurd (miss ks 5 t h)) (λ x h. refl)
+wrong-kind ks 𝐟 t = cases (Wrong ks 𝐟) (λ x h. refl) (λ x h. refl) (λ x h. refl) (λ x h. refl) (λ x h. refl) (λ x h. refl) (λ x h. absurd (miss ks 6 t h))
 
 pub not-𝐧 : (v : Value) → OneOf (1 ∷ 2 ∷ 3 ∷ 4 ∷ 5 ∷ 6 ∷ []) (tagOf value.the-type v) → held 𝐧 v ≡ none
 not-𝐧 v = wrong-kind (1 ∷ 2 ∷ 3 ∷ 4 ∷ 5 ∷ 6 ∷ []) 𝐧 tt v

@@ -11,7 +11,7 @@ use Rattle.sheets.specs.declared.value.Value.{Value}
 use Rattle.sheets.specs.declared.value.Value.the-variants.{Number, Radians, Metres, Geocentric, Geodetic, Vector, Frame}
 use Rattle.sheets.specs.Text.{Word}
 use Rattle.sheets.specs.Trees.{Num, Expr, Exprs, word-expr, num-expr, form-expr, nil, _▸_, Line, let-line, show-line, Sheet, numbered}
-use Rattle.sheets.specs.Letters.{Letter, 𝐧, 𝐚, 𝐥, 𝐠, 𝐝, 𝐯, 𝐟, ⟦_⟧, Holds, held, hold, both, orientations}
+use Rattle.sheets.specs.Letters.{Letter, 𝐧, 𝐚, 𝐥, 𝐠, 𝐝, 𝐯, 𝐟, ⟦_⟧, Holds, cases, held, hold, both, orientations}
 use Rattle.sheets.specs.Table.{Row, on, when, table}
 use Rattle.sheets.specs.Lookup.{sameWord, shared, Hit, hit, find}
 use Rattle.sheets.specs.Names.{Given, Known, orElse, lookup, barred, readingWords, givenOn}
@@ -48,57 +48,18 @@ module _ (Good : Value → Type 0) (Fine : LocalFrame → Type 0) (nums : (q : N
   GoodOption s none = Unit {0}
   GoodOption s (some y) = Good (valueOf s y)
 
-  good-held : (s : Letter) (x : Value) → Good x → GoodOption s (held s x)
+  abbrev GoodAs : Letter → Value → Type 0
+  GoodAs s x = Good x → GoodOption s (held s x)
+
+  good-held : (s : Letter) (x : Value) → GoodAs s x
   unfolding held
-  good-held 𝐧 (Number x) h = h
-  good-held 𝐧 (Radians x) h = tt
-  good-held 𝐧 (Metres x) h = tt
-  good-held 𝐧 (Geocentric x) h = tt
-  good-held 𝐧 (Geodetic x) h = tt
-  good-held 𝐧 (Vector x) h = tt
-  good-held 𝐧 (Frame x) h = tt
-  good-held 𝐚 (Number x) h = tt
-  good-held 𝐚 (Radians x) h = h
-  good-held 𝐚 (Metres x) h = tt
-  good-held 𝐚 (Geocentric x) h = tt
-  good-held 𝐚 (Geodetic x) h = tt
-  good-held 𝐚 (Vector x) h = tt
-  good-held 𝐚 (Frame x) h = tt
-  good-held 𝐥 (Number x) h = tt
-  good-held 𝐥 (Radians x) h = tt
-  good-held 𝐥 (Metres x) h = h
-  good-held 𝐥 (Geocentric x) h = tt
-  good-held 𝐥 (Geodetic x) h = tt
-  good-held 𝐥 (Vector x) h = tt
-  good-held 𝐥 (Frame x) h = tt
-  good-held 𝐠 (Number x) h = tt
-  good-held 𝐠 (Radians x) h = tt
-  good-held 𝐠 (Metres x) h = tt
-  good-held 𝐠 (Geocentric x) h = h
-  good-held 𝐠 (Geodetic x) h = tt
-  good-held 𝐠 (Vector x) h = tt
-  good-held 𝐠 (Frame x) h = tt
-  good-held 𝐝 (Number x) h = tt
-  good-held 𝐝 (Radians x) h = tt
-  good-held 𝐝 (Metres x) h = tt
-  good-held 𝐝 (Geocentric x) h = tt
-  good-held 𝐝 (Geodetic x) h = h
-  good-held 𝐝 (Vector x) h = tt
-  good-held 𝐝 (Frame x) h = tt
-  good-held 𝐯 (Number x) h = tt
-  good-held 𝐯 (Radians x) h = tt
-  good-held 𝐯 (Metres x) h = tt
-  good-held 𝐯 (Geocentric x) h = tt
-  good-held 𝐯 (Geodetic x) h = tt
-  good-held 𝐯 (Vector x) h = h
-  good-held 𝐯 (Frame x) h = tt
-  good-held 𝐟 (Number x) h = tt
-  good-held 𝐟 (Radians x) h = tt
-  good-held 𝐟 (Metres x) h = tt
-  good-held 𝐟 (Geocentric x) h = tt
-  good-held 𝐟 (Geodetic x) h = tt
-  good-held 𝐟 (Vector x) h = tt
-  good-held 𝐟 (Frame x) h = h
+  good-held 𝐧 = cases (GoodAs 𝐧) (λ x h. h) (λ x h. tt) (λ x h. tt) (λ x h. tt) (λ x h. tt) (λ x h. tt) (λ x h. tt)
+  good-held 𝐚 = cases (GoodAs 𝐚) (λ x h. tt) (λ x h. h) (λ x h. tt) (λ x h. tt) (λ x h. tt) (λ x h. tt) (λ x h. tt)
+  good-held 𝐥 = cases (GoodAs 𝐥) (λ x h. tt) (λ x h. tt) (λ x h. h) (λ x h. tt) (λ x h. tt) (λ x h. tt) (λ x h. tt)
+  good-held 𝐠 = cases (GoodAs 𝐠) (λ x h. tt) (λ x h. tt) (λ x h. tt) (λ x h. h) (λ x h. tt) (λ x h. tt) (λ x h. tt)
+  good-held 𝐝 = cases (GoodAs 𝐝) (λ x h. tt) (λ x h. tt) (λ x h. tt) (λ x h. tt) (λ x h. h) (λ x h. tt) (λ x h. tt)
+  good-held 𝐯 = cases (GoodAs 𝐯) (λ x h. tt) (λ x h. tt) (λ x h. tt) (λ x h. tt) (λ x h. tt) (λ x h. h) (λ x h. tt)
+  good-held 𝐟 = cases (GoodAs 𝐟) (λ x h. tt) (λ x h. tt) (λ x h. tt) (λ x h. tt) (λ x h. tt) (λ x h. tt) (λ x h. h)
 
   abbrev GoodHeld : (ss : List Letter) → Option (Holds ss) → Type 0
   GoodHeld ss none = Unit {0}
