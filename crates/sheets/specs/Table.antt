@@ -1,5 +1,6 @@
 -- THE KIND TABLE: a row for each form of document 01, and for each choice of g or d.
 use mathlib.Core.List.{List, [], _∷_}
+use mathlib.Core.Option.{Option, none, some}
 use mathlib.Core.Bool.{Bool, true, false}
 use Prim.Native.String.{String}
 use Prim.Native.Nat.{ℕ}
@@ -50,25 +51,45 @@ abbrev pub when : {A : Type 0} → Bool → A → A → A
 when true x y = x
 when false x y = y
 
--- the word of a form such as "to f g", and its letters
+-- the word of a form such as "to f g", and what is behind it
 abbrev first : Word → Word
 first [] = []
 first (b ∷ r) = when (eqb b 32) [] (b ∷ first r)
 
-abbrev letter : ℕ → Letter
+abbrev behind : Word → Word
+behind [] = []
+behind (b ∷ r) = when (eqb b 32) (b ∷ r) (behind r)
+
+-- the letters, each after a space; none where something else stands there
+abbrev letter : ℕ → Option Letter
 letter b =
-    when (eqb b 110) 𝐧 (when (eqb b 97) 𝐚 (when (eqb b 108) 𝐥 (when (eqb b 103) 𝐠 (when (eqb b 100) 𝐝 (when (eqb b 118) 𝐯 𝐟)))))
+    when (eqb b 110) (some 𝐧) (when (eqb b 97) (some 𝐚) (when (eqb b 108) (some 𝐥) (when (eqb b 103) (some 𝐠) (when (eqb b 100) (some 𝐝) (when (eqb b 118) (some 𝐯) (when (eqb b 102) (some 𝐟) none))))))
 
-abbrev behindSpace : Bool → ℕ → List Letter → List Letter
-behindSpace true b ss = letter b ∷ ss
-behindSpace false b ss = ss
+abbrev before : Option Letter → Option (List Letter) → Option (List Letter)
+before none o = none
+before (some s) none = none
+before (some s) (some ss) = some (s ∷ ss)
 
-abbrev lettersFrom : Bool → Word → List Letter
-lettersFrom t [] = []
-lettersFrom t (b ∷ r) = behindSpace t b (lettersFrom (eqb b 32) r)
+abbrev spelled : Word → Option (List Letter)
+spelled [] = some []
+spelled (b ∷ []) = none
+spelled (b ∷ c ∷ r) = when (eqb b 32) (before (letter c) (spelled r)) none
 
-abbrev letters : String → List Letter
-letters s = lettersFrom false (ascii s)
+abbrev letters : String → Option (List Letter)
+letters s = spelled (behind (ascii s))
+
+-- what a row with these letters makes; where they are none there is nothing, so that no such row can be written
+abbrev Making : Option (List Letter) → Type 0
+Making none = ⊥
+Making (some ss) = Ellipsoid → Fn ss Value
+
+abbrev taking : Option (List Letter) → List Letter
+taking none = []
+taking (some ss) = ss
+
+abbrev applying : (o : Option (List Letter)) → Making o → Ellipsoid → Fn (taking o) Value
+applying none h = absurd h
+applying (some ss) h = h
 
 abbrev always : (ss : List Letter) → Fn ss Bool
 always [] = true
@@ -76,11 +97,11 @@ always (s ∷ ss) = λ x. always ss
 
 infix 5 _⟹_≔_ _⟶_≔_ _provided_
 -- a form whose value has the kind that the shared orientation tells
-abbrev _⟹_≔_ : (s : String) → (Orientation → Kind) → (Ellipsoid → Fn (letters s) Value) → Row
-s ⟹ k ≔ h = record { word = first (ascii s); takes = letters s; over = λ o. true; gives = k; centred = λ e. always (letters s); apply = h }
+abbrev _⟹_≔_ : (s : String) → (Orientation → Kind) → Making (letters s) → Row
+s ⟹ k ≔ h = record { word = first (ascii s); takes = taking (letters s); over = λ o. true; gives = k; centred = λ e. always (taking (letters s)); apply = applying (letters s) h }
 
 -- a form whose value has one kind
-abbrev _⟶_≔_ : (s : String) → Kind → (Ellipsoid → Fn (letters s) Value) → Row
+abbrev _⟶_≔_ : (s : String) → Kind → Making (letters s) → Row
 s ⟶ k ≔ h = s ⟹ (λ o. k) ≔ h
 
 -- some orientations alone
