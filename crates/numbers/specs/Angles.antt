@@ -1,9 +1,10 @@
 -- Angles: a wrapped number, in radians. angle.rs.
 use mathlib.Core.Bool.{Bool, _&&_}
+use mathlib.Core.List.{List, [], _∷_}
 use lib.Ieee as Ieee
 use lib.Ieee.{Float}
 use Rattle.numbers.specs.Ops.{_⊕_, _⊗_, _⊘_, num, pick}
-use Rattle.numbers.specs.Floats.{pi, abs, toRadians, toDegrees, remainder}
+use Rattle.numbers.specs.Floats.{pi, epsilon, abs, toRadians, toDegrees, remainder}
 use Rattle.numbers.specs.declared.angle.Angle.{Angle}
 
 abbrev pub angle : Float → Angle
@@ -24,6 +25,10 @@ quarterCircle = angle (pi ⊘ num 2)
 
 abbrev pub negQuarterCircle : Angle
 negQuarterCircle = angle (Ieee.neg pi ⊘ num 2)
+
+-- `ZERO`, the circles and `DBL_EPSILON`
+abbrev pub constants : List Angle
+constants = angle (num 0) ∷ quarterCircle ∷ negQuarterCircle ∷ halfCircle ∷ negHalfCircle ∷ fullCircle ∷ angle epsilon ∷ []
 
 -- `from_degrees`, `as_degrees`
 abbrev pub fromDegrees : Float → Angle

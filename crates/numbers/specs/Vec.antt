@@ -1,5 +1,6 @@
 -- Vectors of three doubles: `Vec3` of vec3.rs, operation by operation.
 use mathlib.Core.Bool.{Bool, _&&_}
+use mathlib.Core.List.{List, [], _∷_}
 use lib.Ieee as Ieee
 use lib.Ieee.{Float}
 use Rattle.numbers.specs.Ops.{_⊕_, _⊖_, _⊗_, _⊘_, num, pick}
@@ -36,6 +37,9 @@ negUnitY = raw (num 0) (Ieee.neg (num 1)) (num 0)
 
 abbrev pub negUnitZ : Vec3
 negUnitZ = raw (num 0) (num 0) (Ieee.neg (num 1))
+
+abbrev pub constants : List Vec3
+constants = unitX ∷ unitY ∷ unitZ ∷ negUnitX ∷ negUnitY ∷ negUnitZ ∷ zeroVec ∷ []
 
 -- ---- products and norms
 

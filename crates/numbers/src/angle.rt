@@ -28,6 +28,21 @@ impl Angle {
 
     pub const DBL_EPSILON: Angle = Angle(EPSILON);
 
+    // The constants, with a contract.
+    pub fn constants() -> [Angle; 7]
+        ensures { λ r. ⌜ r ≡ Angles.constants ⌝ }
+    {
+        [
+            Angle::ZERO,
+            Angle::QUARTER_CIRCLE,
+            Angle::NEG_QUARTER_CIRCLE,
+            Angle::HALF_CIRCLE,
+            Angle::NEG_HALF_CIRCLE,
+            Angle::FULL_CIRCLE,
+            Angle::DBL_EPSILON,
+        ]
+    }
+
     pub fn as_degrees(self) -> f64
         ensures { λ r. ⌜ r ≡ asDegrees self ⌝ }
     {

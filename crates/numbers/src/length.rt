@@ -1,11 +1,19 @@
 // A length: a wrapped number, in metres.
 ghost use mathlib.Core.Path.{_≡_};
+ghost use Rattle.numbers.specs.Ops.{num};
 ghost use Rattle.numbers.specs.Lengths.{metres, lengthNeg, lengthAdd, lengthMul, lengthDiv, lengthOver, lengthAbs};
 
 pub struct Length(pub f64);
 
 impl Length {
     pub const ZERO: Length = Length(0.0);
+
+    // The constant, with a contract.
+    pub fn zero() -> Self
+        ensures { λ r. ⌜ r ≡ metres (num 0) ⌝ }
+    {
+        Length::ZERO
+    }
 
     pub fn from_metres(m: f64) -> Self
         ensures { λ r. ⌜ r ≡ metres m ⌝ }

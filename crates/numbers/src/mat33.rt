@@ -17,6 +17,13 @@ impl Mat33 {
         r2: Vec3::UNIT_Z,
     };
 
+    // The constant, with a contract.
+    pub fn identity() -> Self
+        ensures { λ r. ⌜ r ≡ Mat.identity ⌝ }
+    {
+        Mat33::IDENTITY
+    }
+
     pub fn new(r0: Vec3, r1: Vec3, r2: Vec3) -> Self
         ensures { λ r. ⌜ r ≡ mat r0 r1 r2 ⌝ }
     {

@@ -54,6 +54,21 @@ impl Vec3 {
         z: 0.0,
     };
 
+    // The constants, with a contract.
+    pub fn constants() -> [Vec3; 7]
+        ensures { λ r. ⌜ r ≡ Vec.constants ⌝ }
+    {
+        [
+            Vec3::UNIT_X,
+            Vec3::UNIT_Y,
+            Vec3::UNIT_Z,
+            Vec3::NEG_UNIT_X,
+            Vec3::NEG_UNIT_Y,
+            Vec3::NEG_UNIT_Z,
+            Vec3::ZERO,
+        ]
+    }
+
     pub fn new(vx: f64, vy: f64, vz: f64) -> Self
         ensures { λ r. ⌜ r ≡ vec vx vy vz ⌝ }
     {
