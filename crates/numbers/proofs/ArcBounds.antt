@@ -15,7 +15,8 @@ use lib.Ieee.Scale.{finite}
 use lib.Ieee.Positive.{above, above-of-le, le→cross}
 use Rattle.numbers.specs.Ops.{_⊕_, _⊖_, _⊗_, _⊘_, decimal, num, pick}
 use Rattle.numbers.specs.Floats.{pi, signBit, abs}
-use Rattle.numbers.specs.Sine.{Bounded, horner, alternating}
+use Rattle.numbers.specs.Sine.{horner, alternating}
+use Rattle.numbers.specs.code.Sizes.{Bounded}
 use Rattle.numbers.specs.Arctangent.{atanPoly, atanUnit, zero?, atanBase, turnedBy, negatedBy, atan2}
 use Rattle.numbers.proofs.Isqrt.{below-or-not}
 use Rattle.numbers.proofs.Bounds.{bounded-finite, wider, le-fractions, bounded-mul, bounded-neg, bounded-add, bounded-sub, bounded-gap, bounded-quotient}

@@ -14,7 +14,7 @@ use lib.Ieee.Bits.{is-true}
 use lib.Ieee.Order.{round-mono}
 use lib.Ieee.Scale.{finite}
 use Rattle.numbers.specs.Floats.{abs}
-use Rattle.numbers.specs.Sine.{Bounded}
+use Rattle.numbers.specs.code.Sizes.{Bounded}
 use Rattle.numbers.proofs.SignLaws.{odd-abs}
 use Rattle.numbers.proofs.WholeLaw.{at-most}
 

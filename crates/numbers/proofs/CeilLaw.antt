@@ -11,7 +11,8 @@ use lib.Ieee.{Float, nan, inf, fin, binary64, up, down, lt, le, neg, sub, ofBits
 use lib.Ieee.Fits.{down-pos}
 use lib.Ieee.Exact.{HasValue}
 use lib.Ieee.Bits.{is-false}
-use Rattle.numbers.specs.Sine.{Bounded, ceil, mod4}
+use Rattle.numbers.specs.Sine.{ceil, mod4}
+use Rattle.numbers.specs.code.Sizes.{Bounded}
 use Rattle.numbers.proofs.WholeLaw.{AtMost, Exceeds, whole-val, sub-whole, not-below, is-below, le-not-lt}
 
 none : (m : ℕ) (e : ℤ) → toUnsigned 64 (fin true m e) ≡ 0

@@ -8,7 +8,8 @@ use lib.IntN.{ℤ, pos, negsuc}
 use lib.Dec.{eqb, eqb→eq, lit≤}
 use lib.Ieee.{Float, nan, inf, fin, binary64, up, down, le, neg, ofInt}
 use Rattle.numbers.specs.Ops.{_⊖_, _⊗_, decimal, num, pick}
-use Rattle.numbers.specs.Sine.{Bounded, reduced, turns, rest, mod4, sinBy, cosBy, within64}
+use Rattle.numbers.specs.Sine.{reduced, turns, rest, mod4, sinBy, cosBy, within64}
+use Rattle.numbers.specs.code.Sizes.{Bounded}
 use Rattle.numbers.proofs.WholeLaw.{at-most}
 use Rattle.numbers.proofs.Bounds.{wider, le-fractions, bounded-mul, bounded-sub}
 

@@ -1,5 +1,5 @@
 -- Sine and cosine as document 01 gives them for `std`'s: every step one rounded operation in the order said.
-use Prim.Native.Nat.{ℕ, zero, suc, _+_, _-_, _*_, _/_, _%_, _≤_}
+use Prim.Native.Nat.{ℕ, zero, suc, _+_, _-_, _*_, _/_, _%_}
 use mathlib.Core.Bool.{Bool, true, false, cond, _&&_}
 use lib.IntN.{ℤ, pos, negsuc, negℤ}
 use lib.Dec.{eqb}
@@ -83,9 +83,3 @@ sin x = reduced sinBy x
 
 unfoldable pub cos : Float → Float
 cos x = reduced cosBy x
-
--- ---- what `quarters` of src/sine.rt asks: finite, and at most b in size
-abbrev pub Bounded : Float → ℕ → Type 0
-Bounded nan b = ⊥
-Bounded (inf s) b = ⊥
-Bounded (fin s m e) b = m * up e ≤ b * down e

@@ -3,7 +3,8 @@ ghost use mathlib.Core.Path.{_≡_};
 ghost use Prim.Native.Nat.{_+_, _%_, _^_, _≤_};
 ghost use lib.Ieee.{binary64, ofInt};
 ghost use Rattle.numbers.specs.Sine as Sine;
-ghost use Rattle.numbers.specs.Sine.{sinPoly, cosPoly, sinBy, Bounded, ceil, mod4, rest, reduced};
+ghost use Rattle.numbers.specs.Sine.{sinPoly, cosPoly, sinBy, ceil, mod4, rest, reduced};
+ghost use Rattle.numbers.specs.code.Sizes.{Bounded};
 
 // S of r: Horner in r * r over (-1)^k / (2k+1)!, times r.
 fn sin_poly(r: f64) -> f64
