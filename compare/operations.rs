@@ -4,16 +4,13 @@ use crate::words::{Operation, Outputs, op};
 use reference::numbers::{eq, eq_zero, gte, lte};
 use reference::{Angle, Length, Mat33, Standins, Vec3};
 
-// The double nearest to digits / tens: where tens is a power of ten that of the numeral, as std reads it.
+// Digits and tens, each as the double nearest to it, divided. Where both are doubles exactly and tens is a power of ten, the numeral as std reads it.
 fn decimal(negative: bool, digits: u64, tens: u64) -> f64 {
-    if digits > 1 << 53 || tens == 0 || tens > 1 << 53 {
-        return 0.0;
-    }
-    let places = tens.ilog10();
-    let x = if tens == 10u64.pow(places) {
+    let exact = digits.max(tens) <= 1 << 53;
+    let places = tens.checked_ilog10().unwrap_or(0);
+    let x = if exact && tens == 10u64.pow(places) {
         format!("{digits}e-{places}").parse().unwrap()
     } else {
-        // both are doubles, and the division is rounded once
         digits as f64 / tens as f64
     };
     if negative { -x } else { x }

@@ -11,6 +11,8 @@ use lib.Ieee.Fits.{down-pos, round-is}
 use lib.Ieee.Exact.{HasValue}
 use lib.Ieee.Scale.{round-same}
 use lib.Ieee.Bits.{cond-no}
+use Rattle.numbers.specs.Ops.{decimal}
+use Rattle.numbers.specs.Floats.{nearest, divided}
 use Rattle.numbers.proofs.Values.{no-digits}
 use Rattle.numbers.proofs.WholeLaw.{whole-val}
 
@@ -60,3 +62,10 @@ neg-units f q k = go (ltb (q * 2 ^ k) (2 ^ (low f + suc (emax f))))
 
 pub neg-round : (f : Format) (a b : ℕ) → neg (round f false a b) ≡ round f true a b
 neg-round f a b = ap neg (round-is f false a b) ∙ neg-units f _ _ ∙ sym (round-is f true a b)
+
+-- ---- `divided`
+
+pub divided-nearest : (s : Bool) (n d : ℕ) → n ≤ 2 ^ 53 → d ≤ 2 ^ 53 → 0 < d → divided s n d ≡ nearest s n d
+unfolding divided decimal ofInt
+divided-nearest false n d h k p = quotient n d h k p
+divided-nearest true n d h k p = ap neg (quotient n d h k p) ∙ neg-round binary64 n d

@@ -44,6 +44,10 @@ remainder x y = Ieee.rem binary64 x y
 abbrev pub nearest : Bool → ℕ → ℕ → Float
 nearest s n d = Ieee.round binary64 s n d
 
+-- n and d, each as the double nearest to it, divided, and negated where s: n / 0 is an infinity, and 0 / 0 a NaN. Where both are at most 2 ^ 53 and d is not 0, it is `nearest s n d`.
+unfoldable pub divided : Bool → ℕ → ℕ → Float
+divided s n d = pick s (Ieee.neg (num n ⊘ num d)) (num n ⊘ num d)
+
 -- ---- numbers.rs
 
 -- `f64::EPSILON`, 2^-52

@@ -5,10 +5,9 @@ use crate::units::parts;
 use crate::units::shifted;
 use crate::units::unit_bits;
 ghost use mathlib.Core.Path.{_≡_};
-ghost use Prim.Native.Nat.{_≤_, _<_, _^_};
 ghost use lib.Ieee.{binary64, ofBits, toBits};
 ghost use Rattle.numbers.specs.Floats as Floats;
-ghost use Rattle.numbers.specs.Floats.{signDigit, clampUnit, toRadians, toDegrees, nearest};
+ghost use Rattle.numbers.specs.Floats.{signDigit, clampUnit, toRadians, toDegrees, divided};
 
 pub const PI: f64 = 3.141592653589793;
 
@@ -102,11 +101,10 @@ pub fn rem(x: f64, y: f64) -> f64
     rest as f64 * double(b - a + unit_bits(q.e))
 }
 
-// The double nearest to digits / tens, ties to even, negated where `negative`. Digits and tens are doubles exactly.
+// Digits and tens, each as the double nearest to it, divided, and negated where `negative`. Where both are doubles exactly, and tens is not 0, that is the double nearest to digits / tens, ties to even.
 pub fn decimal(negative: bool, digits: u64, tens: u64) -> f64
-    requires { ⌜ (digits ≤ 2 ^ 53) × (tens ≤ 2 ^ 53) × (0 < tens) ⌝ }
-    ensures { λ r. ⌜ r ≡ nearest negative digits tens ⌝ }
+    ensures { λ r. ⌜ r ≡ divided negative digits tens ⌝ }
 {
-    let v = digits as f64 / tens as f64;
+    let v = std::num::nearest_u64_to_f64(digits) / std::num::nearest_u64_to_f64(tens);
     if negative { -v } else { v }
 }

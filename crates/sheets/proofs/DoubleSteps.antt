@@ -6,7 +6,8 @@ use mathlib.Core.Path.{_≡_, refl, sym, ap, _∙_}
 use mathlib.Core.List.{List}
 use lib.ListN.{length}
 use lib.Ieee.{Float}
-use Rattle.numbers.specs.Floats.{nearest}
+use Rattle.numbers.specs.Floats.{nearest, divided}
+use Rattle.numbers.proofs.Quotient.{divided-nearest}
 use Rattle.sheets.specs.Trees.{Num, numDigits}
 use Rattle.sheets.specs.code.Reader.{readNum}
 use Rattle.sheets.specs.Limits.{numValue}
@@ -41,14 +42,15 @@ module _ (s : List ℕ) (at : ℕ) (v : NumRead) (ev : v ≡ counted (readNum s 
         (omega (arith, p .0), omega (arith, p .1))
 
     module _ (t : ℕ) (et : t ≡ 10 ^ y .behind) where
-      pub tens-small : (t ≤ 2 ^ 53) × (0 < t)
+      tens-small : (t ≤ 2 ^ 53) × (0 < t)
       tens-small =
           let a = pow-le-pow-right {n = 10} (omega arith) {i = y .behind} {j = 6} (numeral-small .1) in
           let b = pow-le-pow-right {n = 10} (omega arith) {i = 0} {j = y .behind} (omega arith) in
           (omega arith, omega arith)
 
-      pub double-is : (r : Float) → r ≡ nearest (y .minus) (y .digits) t → DoubleRead.Is r (y .end) ≡ doubled (readNum s at)
+      pub double-is : (r : Float) → r ≡ divided (y .minus) (y .digits) t → DoubleRead.Is r (y .end) ≡ doubled (readNum s at)
       unfolding doubled
       double-is r er =
           let (q, eq, ey) = counted-got (readNum s at) v ev y h in
-          ap (λ x. DoubleRead.Is x (y .end)) (er ∙ ap (λ x. nearest (y .minus) (y .digits) x) et ∙ numeral-value q (y .end) y ey) ∙ sym (ap doubled eq)
+          let en = divided-nearest (y .minus) (y .digits) t (numeral-small .0) (tens-small .0) (tens-small .1) in
+          ap (λ x. DoubleRead.Is x (y .end)) (er ∙ en ∙ ap (λ x. nearest (y .minus) (y .digits) x) et ∙ numeral-value q (y .end) y ey) ∙ sym (ap doubled eq)

@@ -1,16 +1,15 @@
 -- THE OPERATIONS OF `numbers` BY THEIR NUMBERS: what each answers to the words a that it is given.
-use Prim.Native.Nat.{ℕ, _^_}
-use mathlib.Core.Bool.{_&&_}
+use Prim.Native.Nat.{ℕ}
 use mathlib.Core.List.{List, [], _∷_, _++_}
 use lib.ListN.{getD}
-use lib.Dec.{eqb, leb}
+use lib.Dec.{eqb}
 use lib.Ieee.{Float}
-use Rattle.numbers.specs.Ops.{num, pick}
+use Rattle.numbers.specs.Ops.{num}
 use Rattle.numbers.specs.Root.{sqrt}
 use Rattle.numbers.specs.Sine.{sin, cos}
 use Rattle.numbers.specs.Arctangent.{atan2, asin}
 use Rattle.numbers.specs.Powers.{powfThird, powfThreeHalves}
-use Rattle.numbers.specs.Floats.{toRadians, toDegrees, abs, clampUnit, remainder, nearest, nearZero, near, nearOrBelow, nearOrAbove, signDigit, epsilon}
+use Rattle.numbers.specs.Floats.{toRadians, toDegrees, abs, clampUnit, remainder, divided, nearZero, near, nearOrBelow, nearOrAbove, signDigit, epsilon}
 use Rattle.numbers.specs.Angles.{angle, fullCircle, halfCircle, negHalfCircle, quarterCircle, negQuarterCircle, fromDegrees, asDegrees, angleAbs, angleNeg, angleEq, normalised, normalisedTo}
 use Rattle.numbers.specs.Lengths.{metres, lengthAbs, lengthNeg, lengthMul, lengthDiv, lengthOver, lengthAdd}
 use Rattle.numbers.specs.Vec.{vec, zeroVec, unitX, unitY, unitZ, negUnitX, negUnitY, negUnitZ, newUnit, crossProd, crossProdUnit, dotProd, orthogonalTo, orthogonal, norm, stableCrossProdUnit, stableCrossProd, squaredNorm, unit, vecAdd, vecSub, vecMul, vecDiv, vecNeg, vecEq}
@@ -42,11 +41,6 @@ m a = matrixAt a 0
 
 abbrev pub n : List ℕ → Mat33
 n a = matrixAt a 9
-
--- digits / tens with the sign that 1 in the first word says, where `decimal` takes them, and otherwise zero
-unfoldable pub decimalOf : ℕ → ℕ → ℕ → Float
-decimalOf negative digits tens =
-    pick (leb digits (2 ^ 53) && (leb tens (2 ^ 53) && leb 1 tens)) (nearest (eqb negative 1) digits tens) (num 0)
 
 unfoldable pub angleConstants : List ℕ
 angleConstants =
@@ -140,7 +134,7 @@ table =
     ∷ (9 ⟼ λ a. number (abs (x a)))
     ∷ (10 ⟼ λ a. number (clampUnit (x a)))
     ∷ (11 ⟼ λ a. number (remainder (x a) (y a)))
-    ∷ (12 ⟼ λ a. number (decimalOf (word a 0) (word a 1) (word a 2)))
+    ∷ (12 ⟼ λ a. number (divided (eqb (word a 0) 1) (word a 1) (word a 2)))
     ∷ (13 ⟼ λ a. truth (nearZero (x a)))
     ∷ (14 ⟼ λ a. truth (near (x a) (y a)))
     ∷ (15 ⟼ λ a. truth (nearOrBelow (x a) (y a)))

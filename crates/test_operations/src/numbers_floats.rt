@@ -15,7 +15,7 @@ use numbers::sine::sin;
 ghost use mathlib.Core.Path.{_≡_};
 ghost use Rattle.test_operations.specs.Words.{padded};
 ghost use Rattle.test_operations.specs.Rows.{answered};
-ghost use Rattle.test_operations.specs.NumbersTable.{table, decimalOf};
+ghost use Rattle.test_operations.specs.NumbersTable.{table};
 
 // Operations 0 to 16, and all that follow.
 pub fn floats(op: u64, a: [u64; 32]) -> [u64; 24]
@@ -36,27 +36,11 @@ pub fn floats(op: u64, a: [u64; 32]) -> [u64; 24]
         9 => number(float::abs(x)),
         10 => number(float::clamp_unit(x)),
         11 => number(float::rem(x, y)),
-        12 => number(decimal_of(a[0], a[1], a[2])),
+        12 => number(float::decimal(a[0] == 1, a[1], a[2])),
         13 => truth(compare::eq_zero(x)),
         14 => truth(compare::eq(x, y)),
         15 => truth(compare::lte(x, y)),
         16 => truth(compare::gte(x, y)),
         _ => angles(op, a),
     }
-}
-
-// On whole numbers. 0 where `decimal` does not take them.
-fn decimal_of(negative: u64, digits: u64, tens: u64) -> f64
-    ensures { λ r. ⌜ r ≡ decimalOf negative digits tens ⌝ }
-{
-    if digits > 0x20_0000_0000_0000 {
-        return 0.0;
-    }
-    if tens > 0x20_0000_0000_0000 {
-        return 0.0;
-    }
-    if tens == 0 {
-        return 0.0;
-    }
-    float::decimal(negative == 1, digits, tens)
 }

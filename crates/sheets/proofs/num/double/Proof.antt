@@ -1,6 +1,6 @@
 -- `sheets::num::double` meets its contract. Assumes nothing.
 use borrow.Author.Needs.{needs}
-use Rattle.sheets.proofs.DoubleSteps.{double-none, numeral-small, tens-small, double-is}
+use Rattle.sheets.proofs.DoubleSteps.{double-none, numeral-small, double-is}
 use Rattle.sheets.proofs.num.double.Statement.{statement}
 use Rattle.sheets.proofs.num.double.Tie as tie
 
@@ -20,11 +20,7 @@ tens-requires : tie.Need-tens-requires
 tens-requires c κs = numeral-small _ _ _ (c .before .before .before .num .ensures) _ (c .before .q .given .1) .1
 
 decimal-requires : tie.Need-decimal-requires
-decimal-requires c κs =
-    let e = c .before .before .before .before .num .ensures in
-    let h = c .before .before .q .given .1 in
-    let t = tens-small _ _ _ e _ h _ (c .tens .ensures) in
-    (numeral-small _ _ _ e _ h .0, t .0, t .1)
+decimal-requires c κs = search needs
 
 returns-2 : tie.Need-returns-2
 returns-2 c = double-is _ _ _ (c .before .before .before .before .before .num .ensures) _ (c .before .before .before .q .given .1) _ (c .before .tens .ensures) _ (c .decimal .ensures)

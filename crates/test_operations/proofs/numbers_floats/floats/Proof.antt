@@ -86,17 +86,17 @@ rem-requires c κs = search needs
 number-requires-12 : tie.Need-number-requires-12
 number-requires-12 c κs = search needs
 
-array-read-decimal-of : tie.Need-array-read-decimal-of
-array-read-decimal-of c = search needs
+array-read-decimal : tie.Need-array-read-decimal
+array-read-decimal c = search needs
 
-array-read-decimal-of-2 : tie.Need-array-read-decimal-of-2
-array-read-decimal-of-2 c = search needs
+array-read-decimal-2 : tie.Need-array-read-decimal-2
+array-read-decimal-2 c = search needs
 
-array-read-decimal-of-3 : tie.Need-array-read-decimal-of-3
-array-read-decimal-of-3 c = search needs
+array-read-decimal-3 : tie.Need-array-read-decimal-3
+array-read-decimal-3 c = search needs
 
-decimal-of-requires : tie.Need-decimal-of-requires
-decimal-of-requires c κs = search needs
+decimal-requires : tie.Need-decimal-requires
+decimal-requires c κs = search needs
 
 number-requires-13 : tie.Need-number-requires-13
 number-requires-13 c κs = search needs
@@ -178,7 +178,7 @@ returns-12 c = rw (c .before .before .match .keys12) (simp (c .number12 .ensures
 
 returns-13 : tie.Need-returns-13
 unfolding answered table
-returns-13 c = rw (c .before .before .match .keys13) (simp (c .number13 .ensures, c .before .decimal-of .ensures))
+returns-13 c = rw (c .before .before .match .keys13) (simp (c .number13 .ensures, c .before .decimal .ensures))
 
 returns-14 : tie.Need-returns-14
 unfolding answered table
@@ -201,4 +201,4 @@ unfolding answered table
 returns-18 c = c .angles .ensures ∙ ap padded (sym (skipped 17 table _ _ (c .before .match .rest) .0))
 
 pub floats-spec : {M : Type 1} → statement M
-floats-spec = tie.close (tie.spec double-at-requires double-at-requires-2 sqrt-requires number-requires sin-requires number-requires-2 cos-requires number-requires-3 atan2-requires number-requires-4 asin-requires number-requires-5 powf-third-requires number-requires-6 powf-three-halves-requires number-requires-7 to-radians-requires number-requires-8 to-degrees-requires number-requires-9 abs-requires number-requires-10 clamp-unit-requires number-requires-11 rem-requires number-requires-12 array-read-decimal-of array-read-decimal-of-2 array-read-decimal-of-3 decimal-of-requires number-requires-13 eq-zero-requires truth-requires eq-requires truth-requires-2 lte-requires truth-requires-3 gte-requires truth-requires-4 angles-requires returns returns-2 returns-3 returns-4 returns-5 returns-6 returns-7 returns-8 returns-9 returns-10 returns-11 returns-12 returns-13 returns-14 returns-15 returns-16 returns-17 returns-18)
+floats-spec = tie.close (tie.spec double-at-requires double-at-requires-2 sqrt-requires number-requires sin-requires number-requires-2 cos-requires number-requires-3 atan2-requires number-requires-4 asin-requires number-requires-5 powf-third-requires number-requires-6 powf-three-halves-requires number-requires-7 to-radians-requires number-requires-8 to-degrees-requires number-requires-9 abs-requires number-requires-10 clamp-unit-requires number-requires-11 rem-requires number-requires-12 array-read-decimal array-read-decimal-2 array-read-decimal-3 decimal-requires number-requires-13 eq-zero-requires truth-requires eq-requires truth-requires-2 lte-requires truth-requires-3 gte-requires truth-requires-4 angles-requires returns returns-2 returns-3 returns-4 returns-5 returns-6 returns-7 returns-8 returns-9 returns-10 returns-11 returns-12 returns-13 returns-14 returns-15 returns-16 returns-17 returns-18)
