@@ -1,5 +1,6 @@
 // The library's numbers beside the Rust's; driver.rs says how it is called.
 #![allow(dead_code)]
+mod breaks;
 mod driver;
 mod earth;
 mod feeds;

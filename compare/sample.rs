@@ -1,4 +1,5 @@
-// A sample of inputs and the Rust's answers as text. A line is the operation's number in three digits, then each input or output as a space and 16 hexadecimal digits.
+// A sample of inputs, after those generated for an operation the ones of breaks.rs, and the Rust's answers as text. A line is the operation's number in three digits, then each input or output as a space and 16 hexadecimal digits.
+use crate::breaks;
 use crate::driver::{Table, hex};
 use crate::feeds::Feeder;
 use crate::words::INPUTS;
@@ -12,9 +13,14 @@ pub fn write(table: &Table, count: u64, seed: u64, inputs: &str, answers: &str) 
         let number = table.first + number;
         let mut feeder = Feeder::of(seed, number);
         let turns = if operation.inputs == 0 { 1 } else { count };
-        for _ in 0..turns {
+        let generated = (0..turns).map(|_| {
+            let mut words = vec![0; operation.inputs];
+            feeder.fill(operation.feed, &mut words);
+            words
+        });
+        for words in generated.chain(breaks::inputs(operation.name)) {
             let mut bits = [0; INPUTS];
-            feeder.fill(operation.feed, &mut bits[..operation.inputs]);
+            bits[..operation.inputs].copy_from_slice(&words);
             let answer = operation.answer(&bits);
             writeln!(asked, "{number:03}{}", hex(&bits[..operation.inputs]))?;
             writeln!(answered, "{number:03}{}", hex(&answer[..operation.outputs]))?;
