@@ -1,9 +1,12 @@
 // What the check and the run answer for a sheet, and what they leave in their buffers.
-// Both buffers are lent full of 254, which is no kind code and no byte of a text: what still holds it was not written.
+// Both buffers are the first bytes of larger ones full of 254, which is no kind code and no byte of a text: what still holds it was not written.
+use crate::cases::Lent;
 use sheets::check::check;
 use sheets::run::run;
 use test_cases::print::decimal;
 use test_cases::print::put;
+ghost use mathlib.Core.Path.{_≡_};
+ghost use Prim.Native.Nat.{_≤_};
 ghost use lib.ListN.{length};
 ghost use Rattle.io.specs.Counts.{Counts};
 
@@ -64,22 +67,24 @@ fn text(out: &[u8], count: usize) {
     }
 }
 
-// `check`, the number, the line and the kind codes.
-fn checked(s: &[u8]) {
-    let mut kinds = [254u8; 96];
-    let a = check(s, &mut kinds);
+// `check`, the number, the line and the kind codes, where so many bytes of the buffer are lent.
+fn checked(s: &[u8], kinds: &mut [u8], lent: usize)
+    requires { ⌜ Counts lent (now kinds) ⌝ }
+{
+    let a = check(s, &mut kinds[..lent]);
     put(b"check ");
     small(a.number);
     put(b" ");
     decimal(a.line);
-    codes(&kinds);
+    codes(kinds);
     put(b"\n");
 }
 
-// `run`, the number, the line and the count of bytes, and on the next lines the text.
-fn ran(s: &[u8], readings: &[f64; 16]) {
-    let mut out = [254u8; 24576];
-    let a = run(s, readings, &mut out);
+// `run`, the number, the line and the count of bytes, and on the next lines the text, where so many bytes of the buffer are lent.
+fn ran(s: &[u8], readings: &[f64], out: &mut [u8], lent: usize)
+    requires { ⌜ Counts lent (now out) ⌝ }
+{
+    let a = run(s, readings, &mut out[..lent]);
     put(b"run ");
     small(a.number);
     put(b" ");
@@ -87,11 +92,16 @@ fn ran(s: &[u8], readings: &[f64; 16]) {
     put(b" ");
     decimal(a.written);
     put(b"\n");
-    text(&out, a.written);
+    text(out, a.written);
 }
 
-// The answers for a sheet.
-pub fn sheet(s: &[u8], readings: &[f64; 16]) {
-    checked(s);
-    ran(s, readings);
+// The answers for a sheet where this much is lent.
+pub fn sheet(s: &[u8], readings: &[f64], lent: Lent)
+    requires { ⌜ (lent .kinds ≤ 256) × (lent .readings ≤ 128) × (lent .output ≤ 32768) × (length (now readings) ≡ 128) ⌝ }
+{
+    let mut kinds = [254u8; 256];
+    checked(s, &mut kinds, lent.kinds);
+    let mut out = [254u8; 32768];
+    let n = lent.readings;
+    ran(s, &readings[..n], &mut out, lent.output);
 }

@@ -11,17 +11,11 @@ Inv-loop head values₀ bits i₀ values i = i ≤ 16
 abbrev μ-loop : tie.MeasureT-loop
 μ-loop head values₀ bits i₀ values i = 16 - i
 
-element-copy-out-if1 : tie.Need-element-copy-out-if1 Inv-loop μ-loop
-element-copy-out-if1 c = omega arith
-
-returns : tie.Need-returns Inv-loop μ-loop
-returns c = tt
-
 words-requires : tie.Need-words-requires Inv-loop μ-loop
 words-requires c κs = search needs
 
-returns-2 : tie.Need-returns-2 Inv-loop μ-loop
-returns-2 c = tt
+returns : tie.Need-returns Inv-loop μ-loop
+returns c = tt
 
 loop-holds : tie.Need-loop-holds Inv-loop μ-loop
 loop-holds c = omega arith
@@ -38,8 +32,8 @@ double-requires c κs = search needs
 mul-values : tie.Need-mul-values Inv-loop μ-loop
 mul-values c = omega arith
 
-element-write-values : tie.Need-element-write-values Inv-loop μ-loop
-element-write-values c = omega arith
+array-write-values : tie.Need-array-write-values Inv-loop μ-loop
+array-write-values c = omega arith
 
 add-i : tie.Need-add-i Inv-loop μ-loop
 add-i c = omega arith
@@ -50,8 +44,8 @@ loop-less c = omega arith
 loop-again : tie.Need-loop-again Inv-loop μ-loop
 loop-again c = omega arith
 
-returns-3 : tie.Need-returns-3 Inv-loop μ-loop
-returns-3 c = tt
+returns-2 : tie.Need-returns-2 Inv-loop μ-loop
+returns-2 c = tt
 
 pub readings-spec : {M : Type 1} → statement M
 readings-spec =
@@ -59,17 +53,15 @@ readings-spec =
     (tie.spec
     Inv-loop
     μ-loop
-    element-copy-out-if1
-    returns
     words-requires
-    returns-2
+    returns
     loop-holds
     mul-double
     array-read-double
     double-requires
     mul-values
-    element-write-values
+    array-write-values
     add-i
     loop-less
     loop-again
-    returns-3)
+    returns-2)
