@@ -22,6 +22,7 @@ use Rattle.sheets.specs.Refusals.{stop, refusalNumber}
 use Rattle.sheets.specs.code.Reader.{none as noGot, got, readWord, readExpr, readLine}
 use Rattle.sheets.specs.code.Views.{coded}
 use Rattle.sheets.specs.Machine.{Out, goes, stops, sticks, meet, test, eval}
+use Rattle.sheets.proofs.ReaderLaws.{byte-inside}
 use Rattle.sheets.proofs.Viewed.{coded-none, coded-got}
 use Rattle.sheets.proofs.Slices.{word-part}
 use Rattle.sheets.specs.code.Operands.{operand, foundOf, Ready}
@@ -54,25 +55,31 @@ next-none s at i f far = record {
   low = omega arith;
   high = λ h. h;
   short = omega arith;
-  is = λ l n e. let (m, en, le, short, lo, lf, first) = line-ends s at l n e in absurd (f .none m lo (before m n far en le short) lf);
+  is = λ m lo hi lf first. absurd (f .none m lo (before m hi lf far) lf);
+  none = λ h. refl;
 }
   where
-    before : (m n : ℕ) → (length s ≤ i) ⊎ (at + 200 ≤ i) → n ≡ m + 1 → n ≤ length s → n ≤ at + 200 → m < i
-    before m n (inl h) en le short = omega arith
-    before m n (inr h) en le short = omega arith
+    before : (m : ℕ) → m < at + 200 → getD s m 0 ≡ 10 → (length s ≤ i) ⊎ (at + 200 ≤ i) → m < i
+    before m hi lf (inl h) = omega (arith, byte-inside s m 10 lf (omega arith))
+    before m hi lf (inr h) = omega arith
 
 pub next-found : (s : List ℕ) (at i b : ℕ) → at ≤ i → i < at + 200 → i < length s → b ≡ getD s i 0 → b ≡ 10 → NoLF s at i → NextLine s at (i + 1)
 next-found s at i b lo short inside eb h f = record {
   low = omega arith;
   high = λ k. omega arith;
   short = omega arith;
-  is = λ l n e. let (m, en, le, sh, lo', lf, first) = line-ends s at l n e in go m n en lo' lf first (ltb m i) refl (ltb i m) refl;
+  is = λ m lo' hi lf first. go m lo' lf first (ltb m i) refl (ltb i m) refl;
+  none = λ g. absurd (g i lo short (sym eb ∙ h));
 }
   where
-    go : (m n : ℕ) → n ≡ m + 1 → at ≤ m → getD s m 0 ≡ 10 → ((k : ℕ) → at ≤ k → k < m → getD s k 0 ≡ 10 → ⊥) → (c : Bool) → ltb m i ≡ c → (d : Bool) → ltb i m ≡ d → i + 1 ≡ n
-    go m n en lo' lf first true ec d ed = absurd (f .none m lo' (ltb-true m i ec) lf)
-    go m n en lo' lf first false ec true ed = absurd (first i lo (ltb-true i m ed) (sym eb ∙ h))
-    go m n en lo' lf first false ec false ed = omega (arith, ltb-false m i ec, ltb-false i m ed)
+    go : (m : ℕ) → at ≤ m → getD s m 0 ≡ 10 → ((k : ℕ) → at ≤ k → k < m → getD s k 0 ≡ 10 → ⊥) → (c : Bool) → ltb m i ≡ c → (d : Bool) → ltb i m ≡ d → i + 1 ≡ m + 1
+    go m lo' lf first true ec d ed = absurd (f .none m lo' (ltb-true m i ec) lf)
+    go m lo' lf first false ec true ed = absurd (first i lo (ltb-true i m ed) (sym eb ∙ h))
+    go m lo' lf first false ec false ed = omega (arith, ltb-false m i ec, ltb-false i m ed)
+
+-- where a line stands it is the place of the next one
+pub next-is : (s : List ℕ) (at r : ℕ) → NextLine s at r → (l : Line) (n : ℕ) → readLine s at ≡ got l n → r ≡ n
+next-is s at r h l n e = let (m, en, le, short, lo, lf, first) = line-ends s at l n e in h .is m lo (omega arith) lf first ∙ sym en
 
 -- the place after a word is within the bytes
 pub word-end : (s : List ℕ) (at : ℕ) (r : WordRead) → r ≡ coded (readWord s at) → (k n : ℕ) → r ≡ WordRead.Is k n → n ≤ length s

@@ -15,7 +15,7 @@ use Rattle.sheets.specs.code.Reader.{Got, none, got, readWord, readNum, 
 use Rattle.sheets.specs.code.Views.{place, coded, counted, closed, headBy}
 use Rattle.sheets.proofs.ReaderLaws.{then-got, limit-is}
 use Rattle.sheets.proofs.Spans.{spans-end, holds-at}
-use Rattle.sheets.proofs.TokenLaws.{num-end}
+use Rattle.sheets.proofs.TokenLaws.{num-spans}
 use Rattle.sheets.proofs.PieceLaws.{OpenAt, open-sound, opened}
 use Rattle.sheets.proofs.HeadLaws.{ellipsoid-word}
 use Rattle.sheets.proofs.Viewed.{placed-none, coded-none, coded-got, counted-none, counted-got}
@@ -82,7 +82,7 @@ module _ (s : List ℕ) (at : ℕ) (v : NumRead) (ev : v ≡ counted (spaced (re
             let (q, eq, ey) = counted-got (spaced (readNum s) s (x .end)) u eu y i in
             head-custom (at + 1) _ p q (x .end) n
             (then-got (spaced (readNum s) s at) _ p (x .end) ep ∙ then-got (spaced (readNum s) s (x .end)) _ q (y .end) eq ∙ closing-got (custom p q) s (y .end) c ec n j)
-            (num-end s (at + 1) p (x .end) (spaced-got (readNum s) s at p (x .end) ep .1))
+            (num-spans s (at + 1) p (x .end) (spaced-got (readNum s) s at p (x .end) ep .1))
 
 module _ (s : List ℕ) (at : ℕ) (r : WordRead) (er : r ≡ coded (spaced (readWord s) s at)) where
   pub wgs-other : r ≡ WordRead.Not → (v : HeadRead) → v ≡ headBy (at + 1) (readCustom s at) → v ≡ headBy (at + 1) (wgsOr (spaced (readWord s) s at) s at)

@@ -17,7 +17,7 @@ use Rattle.sheets.specs.code.Codes.{codeOf}
 use Rattle.sheets.specs.Kinds.{Kind, number, angle, len, geocentric, geodetic, vector, frame, place, kindCode, sameKind, sameKinds}
 use Rattle.sheets.specs.Table.{Row, when, table}
 use Rattle.sheets.specs.Lookup.{sameWord, opens, KindRow, kindRows, search, findKind}
-use Rattle.sheets.specs.code.KindCodes.{keyFrom, keyOf, kindOr255, RowKind, Missed, Opens}
+use Rattle.sheets.specs.code.KindCodes.{keyFrom, keyOf, kindOr255, searchNum, RowKind, Missed, rowCodes}
 use Rattle.sheets.proofs.CodeLaws.{code-same}
 use Rattle.sheets.proofs.KindExact.{same-word, same-kinds}
 use Rattle.sheets.proofs.WordLaws.{spelt, spelt-is, missed-none}
@@ -127,10 +127,6 @@ keys-agree js ks =
 
 -- ---- the rows by numbers
 
-unfoldable pub searchNum : List KindRow → ℕ → ℕ → ℕ
-searchNum [] c k = 255
-searchNum (p ∷ ps) c k = when (eqb (codeOf (p .word)) c && eqb (keyOf (p .takes)) k) (kindCode (p .gives)) (searchNum ps c k)
-
 abbrev allSpelt : List KindRow → Bool
 allSpelt [] = true
 allSpelt (p ∷ ps) = spelt (p .word) && allSpelt ps
@@ -150,13 +146,14 @@ all-spelt : T (allSpelt (kindRows table))
 unfolding kindRows table
 all-spelt = tt
 
-row-kind : (c k r : ℕ) → r ≡ searchNum (kindRows table) c k → RowKind c k r
+-- for a word and kinds it is the table's
+pub row-kind : (c k r : ℕ) → RowKind c k r → (w : Word) → IsWord w → c ≡ codeOf w → (ks : List Kind) → keyOf ks ≡ k → r ≡ kindOr255 (findKind table w ks)
 unfolding findKind
-row-kind c k r h = record { is = λ w hw e ks q. h ∙ ap (λ x. searchNum (kindRows table) x k) (sym e) ∙ ap (searchNum (kindRows table) (codeOf w)) (sym q) ∙ by-numbers (kindRows table) all-spelt w hw ks }
+row-kind c k r h w hw e ks q = h .is ∙ ap (λ x. searchNum (kindRows table) x k) e ∙ ap (searchNum (kindRows table) (codeOf w)) (sym q) ∙ by-numbers (kindRows table) all-spelt w hw ks
 
 -- an arm: the rows of the word v
 pub kind-arm : (v : Word) (c k r : ℕ) → c ≡ codeOf v → r ≡ searchNum (kindRows table) (codeOf v) k → RowKind c k r
-kind-arm v c k r e h = row-kind c k r (h ∙ ap (λ x. searchNum (kindRows table) x k) (sym e))
+kind-arm v c k r e h = record { is = h ∙ ap (λ x. searchNum (kindRows table) x k) (sym e) }
 
 -- each row's code is among these or those
 abbrev allAmong : List KindRow → List ℕ → List ℕ → Bool
@@ -183,19 +180,15 @@ no-number (p ∷ ps) js ks t c k m n =
 
 -- the last arm
 pub no-kind : (js ks : List ℕ) → T (allAmong (kindRows table) js ks) → (c k : ℕ) → Missed js c → Missed ks c → RowKind c k 255
-no-kind js ks t c k m n = row-kind c k 255 (no-number (kindRows table) js ks t c k m n)
+no-kind js ks t c k m n = record { is = no-number (kindRows table) js ks t c k m n }
 
 -- ---- the operators' words
-
-abbrev codesOf : List Row → List ℕ
-codesOf [] = []
-codesOf (r ∷ rs) = codeOf (r .word) ∷ codesOf rs
 
 abbrev rowsSpelt : List Row → Bool
 rowsSpelt [] = true
 rowsSpelt (r ∷ rs) = spelt (r .word) && rowsSpelt rs
 
-opens-by : (rs : List Row) → T (rowsSpelt rs) → (w : Word) → IsWord w → hasKey (codesOf rs) (codeOf w) ≡ opens rs w
+opens-by : (rs : List Row) → T (rowsSpelt rs) → (w : Word) → IsWord w → hasKey (rowCodes rs) (codeOf w) ≡ opens rs w
 opens-by [] t w hw = refl
 opens-by (r ∷ rs) t w hw =
     let h = and-yes (spelt (r .word)) (rowsSpelt rs) t in
@@ -219,9 +212,13 @@ of-every f (j ∷ js) t x h =
     go true g u n = g tt
     go false g u n = n u
 
+-- whether a word is an operator's, by its code
+pub opens-is : (w : Word) → IsWord w → hasKey (rowCodes table) (codeOf w) ≡ opens table w
+opens-is w hw = opens-by table rows-spelt w hw
+
 -- an arm: its codes are codes of the table
-pub opens-yes : (ks : List ℕ) → T (every (hasKey (codesOf table)) ks) → (c : ℕ) → OneOf ks c → Opens c true
-opens-yes ks t c o = record { is = λ w hw e. same-test true (opens table w) (λ u. subst T (opens-by table rows-spelt w hw) (subst (λ x. T (hasKey (codesOf table) x)) (sym e) (of-every (hasKey (codesOf table)) ks t c (among (hasKey ks c) refl)))) (λ u. tt) }
+pub opens-yes : (ks : List ℕ) → T (every (hasKey (rowCodes table)) ks) → (c : ℕ) → OneOf ks c → true ≡ hasKey (rowCodes table) c
+opens-yes ks t c o = same-test true (hasKey (rowCodes table) c) (λ u. of-every (hasKey (rowCodes table)) ks t c (among (hasKey ks c) refl)) (λ u. tt)
   where
     among : (b : Bool) → hasKey ks c ≡ b → T (hasKey ks c)
     among true h = subst T (sym h) tt
@@ -245,5 +242,5 @@ in-none (ks ∷ kss) x m t = go (hasKey ks x) (λ u. m .1 (hit ks x u)) t (in-no
     go false f u n = n u
 
 -- the last arm: the table's codes are all in some arm
-pub opens-no : (kss : List (List ℕ)) → T (every (inSome kss) (codesOf table)) → (c : ℕ) → MissedEach kss c → Opens c false
-opens-no kss t c m = record { is = λ w hw e. same-test false (opens table w) (λ u. absurd u) (λ u. in-none kss c m (of-every (inSome kss) (codesOf table) t c (subst (λ x. T (hasKey (codesOf table) x)) e (subst T (sym (opens-by table rows-spelt w hw)) u)))) }
+pub opens-no : (kss : List (List ℕ)) → T (every (inSome kss) (rowCodes table)) → (c : ℕ) → MissedEach kss c → false ≡ hasKey (rowCodes table) c
+opens-no kss t c m = same-test false (hasKey (rowCodes table) c) (λ u. absurd u) (λ u. in-none kss c m (of-every (inSome kss) (rowCodes table) t c u))

@@ -1,7 +1,7 @@
 -- The kind of an expression, a step at a time: a law for each way out of `kind_at` and `gather`. Assumes nothing.
 use Prim.Native.Nat.{ℕ, zero, suc, _+_, _-_, _*_, _^_, _<_, _≤_}
 use native.Mathlib.Omega.{arith}
-use mathlib.Core.Path.{_≡_, refl, sym, ap, _∙_}
+use mathlib.Core.Path.{_≡_, refl, ap, _∙_}
 use mathlib.Core.List.{List, _∷_}
 use mathlib.Core.Option.{Option, none, some}
 use lib.ListN.{getD}
@@ -28,7 +28,7 @@ use Rattle.sheets.proofs.ExprSteps.{not-close, args-none, args-other, e
 use Rattle.sheets.proofs.Inverse.{not-read, arg-read, form-read}
 use Rattle.sheets.proofs.Spans.{holds-at}
 use Rattle.sheets.proofs.ExprLaws.{ExprAt, expr-sound}
-use Rattle.sheets.proofs.KindRowLaws.{kind-small}
+use Rattle.sheets.proofs.KindRowLaws.{kind-small, row-kind}
 use Rattle.sheets.proofs.PassedLaws.{kind-newest}
 use Rattle.sheets.specs.code.Walking.{kindFrom, kindFound, Standing, kindSaid, ExprHas, keySaid, ArgsHave}
 use Rattle.sheets.specs.declared.kind_walk.KindRead.{KindRead}
@@ -128,7 +128,7 @@ module _ (s : List ℕ) (at b : ℕ) (eb : b ≡ getD s at 0) (depth : ℕ) (ps 
       row-is w hw ec ks n p =
           let i : keyFrom 0 ks ≡ key = cc in
           let j : end ≡ n = cc in
-          (hf .is w hw (sym ec) ks i, j)
+          (row-kind code key f hf w hw ec ks i, j)
 
       not-bad : {C : Type 0} (x : Fault) (n : ℕ) → g ≡ keySaid 0 (bad x) n → C
       unfolding keySaid

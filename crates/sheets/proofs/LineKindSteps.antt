@@ -7,6 +7,7 @@ use mathlib.Core.List.{List, [], _∷_}
 use mathlib.Core.Option.{Option, none, some}
 use lib.Dec.{leb}
 use lib.ListN.{getD}
+use mir.Val.{hasKey}
 use borrow.Author.Tests.{eq-eqb, ne-eqb}
 use Rattle.sheets.specs.Text.{Word}
 use Rattle.sheets.specs.Trees.{Expr, Line, let-line, show-line}
@@ -15,9 +16,10 @@ use Rattle.sheets.specs.code.Codes.{wordChar, codeFrom, codeOf}
 use Rattle.sheets.specs.code.Reader.{Got, none as nothing, got, _then_, readWord, readExpr, orElse, nothing as none', opening, spaced, closing, limit, readLet, readShow, lineOf, readLine}
 use Rattle.sheets.specs.code.Views.{coded, closed}
 use Rattle.sheets.specs.Kinds.{Kind, kindCode}
-use Rattle.sheets.specs.Lookup.{sameWord}
+use Rattle.sheets.specs.Table.{table}
+use Rattle.sheets.specs.Lookup.{sameWord, opens}
 use Rattle.sheets.specs.Names.{Known, orElse as orLater, lookup, knows, barred}
-use Rattle.sheets.specs.code.KindCodes.{Opens}
+use Rattle.sheets.specs.code.KindCodes.{rowCodes}
 use Rattle.sheets.specs.Refusals.{fault, refusalNumber, Checked, fine, bad, thenᶜ}
 use Rattle.sheets.specs.Check.{kindOfExpr}
 use Rattle.sheets.specs.declared.bytes.WordRead.{WordRead}
@@ -30,6 +32,7 @@ use Rattle.sheets.proofs.Slices.{word-is}
 use Rattle.sheets.specs.code.Walking.{kindFound, Standing, kindSaid, ExprHas, unbarred, lineKind, lineSaid, LineHas, BarredWord}
 use Rattle.sheets.specs.declared.kind_walk.KindRead.{KindRead}
 use Rattle.sheets.specs.declared.admit.LineKind.{LineKind}
+use Rattle.sheets.proofs.KindRowLaws.{opens-is}
 use Rattle.sheets.proofs.KindSteps.{found-kind, none-found, some-found}
 
 -- ---- a word that cannot be given
@@ -47,13 +50,16 @@ knows-is w (p ∷ ps) = go (sameWord w (p .name)) (knows-is w ps)
     go false e = e
 
 -- t tells whether the word opens a form, f is the kind code found for it
-module _ (ps : Known Kind) (code : ℕ) (t : Bool) (ht : Opens code t) where
+module _ (ps : Known Kind) (code : ℕ) (t : Bool) (ht : t ≡ hasKey (rowCodes table) code) where
+  by-code : (w : Word) → IsWord w → codeOf w ≡ code → t ≡ opens table w
+  by-code w hw e = ht ∙ ap (hasKey (rowCodes table)) (sym e) ∙ opens-is w hw
+
   pub barred-operator : t ≡ true → BarredWord code ps true
-  barred-operator h = record { is = λ w hw e. ap (λ b. b || knows w ps) (sym h ∙ ht .is w hw e) }
+  barred-operator h = record { is = λ w hw e. ap (λ b. b || knows w ps) (sym h ∙ by-code w hw e) }
 
   module _ (h : t ≡ false) (words codes newest : List ℕ) (st : Standing words codes newest ps) (f : ℕ) (hf : f ≡ kindFound words codes newest code) where
     by-lookup : (w : Word) → IsWord w → codeOf w ≡ code → isSome (lookup w ps) ≡ barred w ps
-    by-lookup w hw e = knows-is w ps ∙ ap (λ b. b || knows w ps) (sym h ∙ ht .is w hw e)
+    by-lookup w hw e = knows-is w ps ∙ ap (λ b. b || knows w ps) (sym h ∙ by-code w hw e)
 
     pub barred-not : f ≡ 255 → BarredWord code ps false
     barred-not i = record { is = λ w hw e. ap isSome (sym (none-found (lookup w ps) f (found-kind words codes newest ps st code f hf w hw (sym e)) i)) ∙ by-lookup w hw e }

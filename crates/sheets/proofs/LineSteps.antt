@@ -11,7 +11,7 @@ use Rattle.sheets.specs.code.Codes.{wordChar, codeFrom, codeOf}
 use Rattle.sheets.specs.code.Reader.{Got, none, got, readWord, readExpr, orElse, opening, spaced, limit, readLet, readShow, lineOf, readLine}
 use Rattle.sheets.specs.code.Views.{place, coded, closed, nameAt, partsAt, lineBy, wordPlace}
 use Rattle.sheets.proofs.ReaderLaws.{then-got, limit-is}
-use Rattle.sheets.proofs.TokenLaws.{word-end}
+use Rattle.sheets.proofs.TokenLaws.{word-spans}
 use Rattle.sheets.proofs.LineLaws.{line-opened}
 use Rattle.sheets.proofs.Viewed.{placed-none, placed-got, coded-none, coded-got}
 use Rattle.sheets.specs.declared.bytes.WordRead.{WordRead}
@@ -35,7 +35,7 @@ answer-got word o l n eo f e = rw eo (ap (λ g. lineIs g n) e)
 
 -- a word read at a place
 name-is : (s : List ℕ) (at : ℕ) (w : Word) (k n : ℕ) → k ≡ codeOf w → readWord s at ≡ got w n → record { code = k; from = at; end = n } ≡ nameAt w at
-name-is s at w k n ek e = rw (ek, word-end s at w n e) refl
+name-is s at w k n ek e = rw (ek, word-spans s at w n e) refl
 
 module _ (s : List ℕ) (at : ℕ) (r : WordRead) (er : r ≡ coded (spaced (readWord s) s at)) where
   pub slot-inside : (k n : ℕ) → r ≡ WordRead.Is k n → at < length s

@@ -32,6 +32,7 @@ use Rattle.sheets.proofs.Slices.{part, line-alone, word-is}
 use Rattle.sheets.proofs.Walks.{Step, walk-end, walk-line}
 use Rattle.sheets.proofs.TextBound.{line-length, word-length, entries-last}
 use Rattle.sheets.proofs.LineText.{line-laid}
+use Rattle.sheets.proofs.EffectSteps.{next-is}
 use Rattle.sheets.specs.code.Running.{wordFound, Tabled, NextLine, letEffect, showEffect, EffectOf, EffectWith, Runs}
 use Rattle.sheets.specs.declared.effects.Effect.{Effect}
 use Rattle.sheets.proofs.LinePlaces.{let-places, space-late}
@@ -162,7 +163,7 @@ module _ (s : List ℕ) (e : Ellipsoid) (rs : List Float) (d : List ℕ) (at num
         → (sp : Step s left number p at ls el) × (k : ℕ) × (readLine (part s at to) 0 ≡ got (sp .line) k) × (sp .next ≡ to) × EffectOf (part s at to) (sp .line) (st .ellipsoid) (st .scope .known) x
     line-is ls left p el st ee tb =
         let sp = walk-line s left number p at ls el h in
-        let it : to ≡ sp .next = ht .is (sp .line) (sp .next) (sp .stands) in
+        let it : to ≡ sp .next = next-is s at to ht (sp .line) (sp .next) (sp .stands) in
         let a = line-alone s at (sp .line) (sp .next) (sp .stands) in
         let b = subst (λ y. readLine (part s at y) 0 ≡ got (sp .line) (sp .next - at)) (sym it) a in
         (sp, sp .next - at, b, sym it, subst (λ y. EffectOf (part s at to) (sp .line) y (st .scope .known) x) (sym ee) (hx .is (st .scope .known) (upto-ready (part s at to) ks fs t n rs m hm (space-late (part s at to) (sp .line) (sp .next - at) b) u (st .scope .known) tb) (sp .line) (sp .next - at) b))

@@ -3,8 +3,9 @@
 // A kind is answered by its code, one less than its digit, and 255 stands for none.
 ghost use mathlib.Core.Path.{_≡_};
 ghost use lib.Dec.{eqb};
-ghost use Rattle.sheets.specs.Table.{when};
-ghost use Rattle.sheets.specs.code.KindCodes.{RowKind, RowKindBeyond, Opens, plainCodes};
+ghost use mir.Val.{hasKey};
+ghost use Rattle.sheets.specs.Table.{when, table};
+ghost use Rattle.sheets.specs.code.KindCodes.{RowKind, RowKindBeyond, rowCodes, plainCodes};
 
 // A row: the kind that it gives where the kinds met are those it takes, else the answer of the rows behind it.
 fn row(key: u64, takes: u64, gives: u8, rest: u8) -> u8
@@ -119,7 +120,7 @@ fn kind_by_orientation(code: u64, key: u64) -> u8
 
 // Whether the word with this code is an operator's.
 pub fn opens(code: u64) -> bool
-    ensures { λ r. ⌜ Opens code r ⌝ }
+    ensures { λ r. ⌜ r ≡ hasKey (rowCodes table) code ⌝ }
 {
     match code {
         5668 | 13 | 9783 | 16873 | 38252798 | 38259888 => true, // deg m geo lla togeo tolla

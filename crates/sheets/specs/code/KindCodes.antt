@@ -2,14 +2,13 @@
 use mathlib.Core.Path.{_≡_}
 use mathlib.Core.List.{List, [], _∷_}
 use mathlib.Core.Option.{Option, none, some}
-use mathlib.Core.Bool.{Bool}
+use mathlib.Core.Bool.{_&&_}
 use Prim.Native.Nat.{ℕ, suc, _+_, _*_}
-use Rattle.sheets.specs.Text.{Word}
-use Rattle.sheets.specs.Grammar.{IsWord}
+use lib.Dec.{eqb}
 use Rattle.sheets.specs.code.Codes.{codeOf}
 use Rattle.sheets.specs.Kinds.{Kind, kindCode}
-use Rattle.sheets.specs.Table.{table}
-use Rattle.sheets.specs.Lookup.{opens, findKind}
+use Rattle.sheets.specs.Table.{Row, when, table}
+use Rattle.sheets.specs.Lookup.{KindRow, kindRows}
 
 -- kinds as digits 1 to 13 to the base 16, after those that made the number n
 unfoldable pub keyFrom : ℕ → List Kind → ℕ
@@ -24,9 +23,14 @@ abbrev pub kindOr255 : Option Kind → ℕ
 kindOr255 none = 255
 kindOr255 (some k) = kindCode k
 
--- the kind of a bracket, for the word that has the code and the kinds that have the key
+-- the code of the kind that the first row gives whose word has the code c and whose kinds have the key k; 255 for none
+unfoldable pub searchNum : List KindRow → ℕ → ℕ → ℕ
+searchNum [] c k = 255
+searchNum (p ∷ ps) c k = when (eqb (codeOf (p .word)) c && eqb (keyOf (p .takes)) k) (kindCode (p .gives)) (searchNum ps c k)
+
+-- r is the kind of a bracket, by its word's code and its arguments' key
 pub record RowKind (code key r : ℕ) : Type 0 where
-  pub is : (w : Word) → IsWord w → codeOf w ≡ code → (ks : List Kind) → keyOf ks ≡ key → r ≡ kindOr255 (findKind table w ks)
+  pub is : r ≡ searchNum (kindRows table) code key
 
 -- none of the codes
 abbrev pub Missed : List ℕ → ℕ → Type 0
@@ -41,6 +45,7 @@ plainCodes = 628937 ∷ 122014 ∷ 31538 ∷ 19355 ∷ 7384 ∷ 82191 ∷ 199617
 pub record RowKindBeyond (codes : List ℕ) (code key r : ℕ) : Type 0 where
   pub is : Missed codes code → RowKind code key r
 
--- whether the word that has the code is an operator's
-pub record Opens (code : ℕ) (r : Bool) : Type 0 where
-  pub is : (w : Word) → IsWord w → codeOf w ≡ code → r ≡ opens table w
+-- the codes of the operators' words
+abbrev pub rowCodes : List Row → List ℕ
+rowCodes [] = []
+rowCodes (r ∷ rs) = codeOf (r .word) ∷ rowCodes rs

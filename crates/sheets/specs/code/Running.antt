@@ -1,6 +1,6 @@
 -- What the pieces of the run answer, said of the machine over what the reader reads.
 -- No part of what must be believed: they only tie the code to the machine.
-use Prim.Native.Nat.{ℕ, zero, suc, _+_, _-_, _*_, _≤_}
+use Prim.Native.Nat.{ℕ, zero, suc, _+_, _-_, _*_, _<_, _≤_}
 use mathlib.Core.Path.{_≡_}
 use mathlib.Core.List.{List, [], _∷_}
 use lib.Dec.{eqb, leb}
@@ -54,12 +54,13 @@ pub record Tabled (ps : Known Value) (t : List Slot) (n : ℕ) (rs : List Float)
 
 -- ---- a line
 
--- r is the place after the next LF, at most 200 bytes on; where a line stands it is the place of the next line
+-- r is the place after the first LF from a place on, where one stands in the next 200 bytes; else the place itself
 pub record NextLine (s : List ℕ) (at r : ℕ) : Type 0 where
   pub low : at ≤ r
   pub high : at ≤ length s → r ≤ length s
   pub short : r ≤ at + 200
-  pub is : (l : Line) (n : ℕ) → readLine s at ≡ got l n → r ≡ n
+  pub is : (m : ℕ) → at ≤ m → m < at + 200 → getD s m 0 ≡ 10 → ((k : ℕ) → at ≤ k → k < m → getD s k 0 ≡ 10 → ⊥) → r ≡ m + 1
+  pub none : ((k : ℕ) → at ≤ k → k < at + 200 → getD s k 0 ≡ 10 → ⊥) → r ≡ at
 
 unfoldable pub letEffect : ℕ → Out Value → Effect
 letEffect c (goes fs v) = Effect.Gives c v

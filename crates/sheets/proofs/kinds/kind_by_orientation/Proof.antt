@@ -5,8 +5,8 @@ use Rattle.sheets.specs.Text.{ascii}
 use Rattle.sheets.specs.code.Codes.{wordChar, codeFrom}
 use Rattle.sheets.specs.Table.{table}
 use Rattle.sheets.specs.Lookup.{kindRows}
-use Rattle.sheets.specs.code.KindCodes.{keyFrom, plainCodes}
-use Rattle.sheets.proofs.KindRowLaws.{searchNum, kind-arm, no-kind}
+use Rattle.sheets.specs.code.KindCodes.{searchNum, keyFrom, plainCodes}
+use Rattle.sheets.proofs.KindRowLaws.{kind-arm, no-kind}
 use borrow.Author.Needs.{needs}
 use Rattle.sheets.proofs.kinds.kind_by_orientation.Statement.{statement}
 use Rattle.sheets.proofs.kinds.kind_by_orientation.Tie as tie

@@ -3,8 +3,8 @@ use Rattle.sheets.specs.Text.{ascii}
 use Rattle.sheets.specs.code.Codes.{wordChar, codeFrom}
 use Rattle.sheets.specs.Table.{table}
 use Rattle.sheets.specs.Lookup.{kindRows}
-use Rattle.sheets.specs.code.KindCodes.{keyFrom}
-use Rattle.sheets.proofs.KindRowLaws.{searchNum, kind-arm}
+use Rattle.sheets.specs.code.KindCodes.{searchNum, keyFrom}
+use Rattle.sheets.proofs.KindRowLaws.{kind-arm}
 use borrow.Author.Needs.{needs}
 use Rattle.sheets.proofs.kinds.kind_of_row.Statement.{statement}
 use Rattle.sheets.proofs.kinds.kind_of_row.Tie as tie
