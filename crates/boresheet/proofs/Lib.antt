@@ -1,3 +1,4 @@
+pub mod ArgumentSteps
 pub mod ReadingSteps
 pub mod MessageSteps
 pub mod Written

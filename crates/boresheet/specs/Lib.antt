@@ -1,3 +1,4 @@
+pub mod Arguments
 pub mod Format
 pub mod Messages
 pub mod code

@@ -1,6 +1,9 @@
 // What the program writes besides the text of a sheet.
 use crate::messages;
 use libc::STDERR_FILENO;
+ghost use mathlib.Core.Path.{_≡_};
+ghost use Rattle.sheets.specs.Lookup.{sameWord};
+ghost use Rattle.boresheet.specs.Arguments.{asksHelp};
 
 fn put(text: &[u8]) {
     io::write_all(STDERR_FILENO, text);
@@ -38,7 +41,9 @@ pub fn too_long() {
 }
 
 // Whether two words are the same.
-fn is_same(a: &[u8], b: &[u8]) -> bool {
+fn is_same(a: &[u8], b: &[u8]) -> bool
+    ensures { λ r. ⌜ r ≡ sameWord (now (a .entry)) (now (b .entry)) ⌝ }
+{
     if a.len() != b.len() {
         return false;
     }
@@ -53,7 +58,9 @@ fn is_same(a: &[u8], b: &[u8]) -> bool {
 }
 
 // Whether an argument is `-h` or `--help`.
-pub fn asks_help(word: &[u8]) -> bool {
+pub fn asks_help(word: &[u8]) -> bool
+    ensures { λ r. ⌜ r ≡ asksHelp (now (word .entry)) ⌝ }
+{
     if is_same(word, b"-h") {
         return true;
     }
