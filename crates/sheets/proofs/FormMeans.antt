@@ -5,14 +5,14 @@ use native.Mathlib.Omega.{arith}
 use mathlib.Core.Path.{_≡_, refl, sym, ap, _∙_}
 use mathlib.Core.List.{List}
 use lib.ListN.{length}
-use Rattle.sheets.specs.Text.{_⌢_, countLF}
+use Rattle.sheets.specs.Text.{_⌢_}
 use Rattle.sheets.specs.Trees.{Sheet}
 use Rattle.sheets.specs.Grammar.{Written, FirstBad}
 use Rattle.sheets.specs.code.Reader.{Form, formed, badLine, readSheet}
 use Rattle.sheets.specs.code.Views.{formOf}
 use Rattle.sheets.specs.declared.form.FormRead.{FormRead}
 use Rattle.sheets.proofs.SheetLaws.{sheet-reads, sheet-breaks}
-use Rattle.sheets.proofs.LineNumbers.{WholeLines, bad-number}
+use Rattle.sheets.proofs.LineNumbers.{countLF, WholeLines, bad-number}
 
 -- r is what `form` answered
 module _ (s : List ℕ) (r : FormRead) (e : r ≡ formOf (readSheet s)) where

@@ -7,12 +7,11 @@ use mathlib.Core.Bool.{false}
 use mathlib.Core.List.{List, _∷_}
 use lib.ListN.{length, take}
 use borrow.Author.Tests.{le-leb, lt-leb}
-use Rattle.sheets.specs.Text.{countLF}
 use Rattle.sheets.specs.Trees.{Line, let-line, show-line, Head}
 use Rattle.sheets.specs.Grammar.{allowed, after}
 use Rattle.sheets.specs.code.Reader.{Got, none, got, orElse, readLine, readHead, permitted, Form, formed, badLine, _thenᶠ_, linesStep, readLines, sheetStep, readSheet}
 use Rattle.sheets.specs.code.Views.{place, linesForm, formOf}
-use Rattle.sheets.proofs.LineNumbers.{head-step, line-step}
+use Rattle.sheets.proofs.LineNumbers.{countLF, head-step, line-step}
 use Rattle.sheets.proofs.Viewed.{placed-none, placed-got}
 use Rattle.sheets.specs.declared.expr.Read.{Read}
 use Rattle.sheets.specs.declared.form.FormRead.{FormRead}

@@ -3,13 +3,14 @@ use Prim.Native.Nat.{ℕ, zero, suc, _+_, _≤_}
 use Prim.Native.String.{String}
 use native.Mathlib.Omega.{arith}
 use mathlib.Core.Path.{_≡_, refl, sym, ap, _∙_}
-use mathlib.Core.Bool.{Bool, true, false}
+use mathlib.Core.Bool.{Bool, true, false, cond}
 use mathlib.Core.Logic.{_⊎_, inl, inr}
 use mathlib.Core.List.{List, [], _∷_, _++_, append-assoc, append-nil}
+use lib.Dec.{eqb}
 use lib.ListN.{length, take, drop, take-append-drop}
 use lib.Seq.{take-append-seam, length-take-le}
 use borrow.Author.Tests.{ne-eqb}
-use Rattle.sheets.specs.Text.{Word, ascii, _⌢_, lf, countLF}
+use Rattle.sheets.specs.Text.{Word, ascii, _⌢_, lf}
 use Rattle.sheets.specs.Trees.{Num, Expr, Exprs, word-expr, num-expr, form-expr, nil, _▸_, Line, let-line, show-line, Head, wgs84, custom, Sheet}
 use Rattle.sheets.specs.Grammar.{Letter, Digit, Each, IsWord, IsNum, sign, point, printNum, print, printArgs, IsExpr, AreArgs, printHead, HeadParts, printLine, LineParts, printLines, AreLines, after, printSheet, IsSheet, Written, FirstBad, at-head, at-line, at-97}
 use Rattle.sheets.specs.code.Reader.{got, readLine, readHead}
@@ -19,6 +20,11 @@ use Rattle.sheets.proofs.LineLaws.{LineStands, line-sound}
 use Rattle.sheets.proofs.HeadLaws.{HeadStands, head-sound}
 
 infixr 20 _also_
+-- how many bytes are LF
+unfoldable pub countLF : List ℕ → ℕ
+countLF [] = 0
+countLF (b ∷ s) = cond (eqb b 10) 1 0 + countLF s
+
 pub count-append : (a b : List ℕ) → countLF (a ++ b) ≡ countLF a + countLF b
 unfolding countLF
 count-append [] b = omega arith

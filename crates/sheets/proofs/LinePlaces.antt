@@ -7,7 +7,7 @@ use mathlib.Core.List.{List, [], _∷_, _++_}
 use lib.Dec.{eqb}
 use lib.ListN.{length, getD}
 use borrow.Author.Tests.{eq-eqb, eqb-true, eqb-false}
-use Rattle.sheets.specs.Text.{Word, lf, countLF}
+use Rattle.sheets.specs.Text.{Word, lf}
 use Rattle.sheets.specs.Trees.{Expr, Line, let-line, show-line}
 use Rattle.sheets.specs.Grammar.{print, printLine}
 use Rattle.sheets.specs.code.Reader.{got, readWord, readExpr, readLine}
@@ -16,7 +16,7 @@ use Rattle.sheets.proofs.TokenLaws.{word-complete}
 use Rattle.sheets.proofs.ExprLaws.{expr-complete}
 use Rattle.sheets.proofs.PieceLaws.{close, close-first, space-first}
 use Rattle.sheets.proofs.LineLaws.{LineStands, line-sound}
-use Rattle.sheets.proofs.LineNumbers.{line-lf}
+use Rattle.sheets.proofs.LineNumbers.{countLF, line-lf}
 
 stands : (s : List ℕ) (at : ℕ) (l : Line) (n : ℕ) → readLine s at ≡ got l n → LineStands s at l n
 stands s at l n e = holds-at (LineStands s at) (readLine s at) l n (line-sound s at) e
