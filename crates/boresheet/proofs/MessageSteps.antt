@@ -1,4 +1,4 @@
--- The refusal's line, a step at a time, as the code writes it. Assumes nothing.
+-- The lines on standard error that say a number, a step at a time, as the code writes them. Assumes nothing.
 use Prim.Native.Nat.{ℕ, zero, suc, _+_, _-_, _/_, _%_, _<_, _≤_}
 use native.Mathlib.Numerals.{add-one, sub-one}
 use native.Mathlib.Omega.{arith}
@@ -118,7 +118,7 @@ line-length number line =
 
 pub line-whole : (number line : ℕ) {o p q s t u v w : List ℕ} {a b c d e f r : ℕ}
     → Written o 0 (ascii "boresheet: refusal ") p a → Written p a (decimal 2 number) q b → Written q b (ascii " (") s c → Written s c (refusalName number) t d
-    → Written t d (ascii ")") u e → Written u e (placeText line) v f → Written v f lf w r → length o ≡ 64 → (take r w ≡ refusalLine number line) × (r ≤ length w)
+    → Written t d (ascii ")") u e → Written u e (placeText line) v f → Written v f lf w r → length o ≡ 96 → (take r w ≡ refusalLine number line) × (r ≤ length w)
 unfolding refusalLine
 line-whole number line {o} {w = w} {r = r} h1 h2 h3 h4 h5 h6 h7 l =
     let k6 = written-then (placeText line) lf h6 h7 in
@@ -128,3 +128,14 @@ line-whole number line {o} {w = w} {r = r} h1 h2 h3 h4 h5 h6 h7 l =
     let k2 = written-then (decimal 2 number) (ascii " (" ⌢ refusalName number ⌢ ascii ")" ⌢ placeText line ⌢ lf) h2 k3 in
     let k1 : Written o 0 (refusalLine number line) w r = written-then (ascii "boresheet: refusal ") (decimal 2 number ⌢ ascii " (" ⌢ refusalName number ⌢ ascii ")" ⌢ placeText line ⌢ lf) h1 k2 in
     (front-is o (refusalLine number line) w r (omega (arith, l, line-length number line)) k1, omega (arith, l, line-length number line, k1 .end, written-length k1))
+
+-- ---- a number between two texts
+
+pub numbered-whole : (before after : List ℕ) (n m : ℕ) → m ≡ n → {o p q w : List ℕ} {a b r : ℕ}
+    → Written o 0 before p a → Written p a (decimal 19 m) q b → Written q b after w r → length o ≡ 96 → length before + length after ≤ 76
+    → (take r w ≡ before ⌢ decimal 19 n ⌢ after) × (r ≤ length w)
+numbered-whole before after n m e {o} {p} {q} {w} {a} {b} {r} h1 h2 h3 l room =
+    let text = before ⌢ decimal 19 n ⌢ after in
+    let k : Written o 0 text w r = written-then before (decimal 19 n ⌢ after) h1 (written-then (decimal 19 n) after (subst (λ z. Written p a (decimal 19 z) q b) e h2) h3) in
+    let short : length text ≤ 96 = omega (arith, room, length-append before (decimal 19 n ⌢ after), length-append (decimal 19 n) after, decimal-length 19 n) in
+    (front-is o text w r (omega (arith, l, short)) k, omega (arith, l, short, k .end, written-length k))

@@ -1,4 +1,4 @@
--- The line that tells a refusal on standard error.
+-- The lines on standard error that tell a refusal, or a file of readings that is not of the form.
 use Prim.Native.Nat.{ℕ, zero, suc, _+_, _/_, _%_}
 use mathlib.Core.Bool.{Bool, true, false, cond}
 use mathlib.Core.List.{List, [], _∷_}
@@ -26,3 +26,11 @@ placeText line = cond (eqb line 0) [] (ascii " at line " ⌢ decimal 19 line)
 
 unfoldable pub refusalLine : ℕ → ℕ → List ℕ
 refusalLine number line = ascii "boresheet: refusal " ⌢ decimal 2 number ⌢ ascii " (" ⌢ refusalName number ⌢ ascii ")" ⌢ placeText line ⌢ lf
+
+-- a line of the file that is no reading, by its number
+unfoldable pub badLineText : ℕ → List ℕ
+badLineText line = ascii "boresheet: readings: line " ⌢ decimal 19 line ⌢ ascii " is neither a number nor 16 hexadecimal digits" ⌢ lf
+
+-- a file of fewer lines than sixteen
+unfoldable pub shortText : ℕ → List ℕ
+shortText lines = ascii "boresheet: readings: the file ends after " ⌢ decimal 19 lines ⌢ ascii " of 16 lines" ⌢ lf

@@ -1,15 +1,15 @@
-// The line that tells a refusal, as bytes.
+// The lines on standard error that say a number, as bytes.
 ghost use mathlib.Core.Path.{_≡_};
-ghost use mathlib.Core.List.{[], _∷_};
+ghost use mathlib.Core.List.{[], _∷_, _++_};
 ghost use Prim.Native.Nat.{_+_, _%_, _<_, _≤_};
 ghost use lib.ListN.{length, take};
 ghost use Rattle.io.specs.Counts.{Counts};
 ghost use Rattle.sheets.specs.code.Writing.{Written};
-ghost use Rattle.boresheet.specs.Messages.{decimal, refusalName, placeText, refusalLine};
+ghost use Rattle.boresheet.specs.Messages.{decimal, refusalName, placeText, refusalLine, badLineText, shortText};
 
 // A text: the first bytes of an array, and how many they are.
 pub struct Text {
-    pub bytes: [u8; 64],
+    pub bytes: [u8; 96],
     pub size: usize,
 }
 
@@ -94,7 +94,7 @@ fn put_place(line: usize, out: &mut [u8], at: usize) -> usize
 pub fn refusal(number: u8, line: usize) -> Text
     ensures { λ r. ⌜ (take (r .size) (r .bytes) ≡ refusalLine number line) × Counts (r .size) (r .bytes) ⌝ }
 {
-    let mut bytes = [0u8; 64];
+    let mut bytes = [0u8; 96];
     let a = put_text(b"boresheet: refusal ", &mut bytes, 0);
     let b = put_decimal(number as u64, 2, &mut bytes, a);
     let c = put_text(b" (", &mut bytes, b);
@@ -103,4 +103,38 @@ pub fn refusal(number: u8, line: usize) -> Text
     let f = put_place(line, &mut bytes, e);
     let size = put_text(b"\n", &mut bytes, f);
     Text { bytes, size }
+}
+
+// A number between two texts.
+fn numbered(before: &[u8], n: usize, after: &[u8]) -> Text
+    requires { ⌜ length (now before) + length (now after) ≤ 76 ⌝ }
+    ensures { λ r. ⌜ (take (r .size) (r .bytes) ≡ now (before .entry) ++ (decimal 19 n ++ now (after .entry))) × Counts (r .size) (r .bytes) ⌝ }
+{
+    let mut bytes = [0u8; 96];
+    let a = put_text(before, &mut bytes, 0);
+    let b = put_decimal(n as u64, 19, &mut bytes, a);
+    let size = put_text(after, &mut bytes, b);
+    Text { bytes, size }
+}
+
+// The line for a file of readings with a line that is none, with its LF.
+pub fn bad_line(line: usize) -> Text
+    ensures { λ r. ⌜ (take (r .size) (r .bytes) ≡ badLineText line) × Counts (r .size) (r .bytes) ⌝ }
+{
+    numbered(
+        b"boresheet: readings: line ",
+        line,
+        b" is neither a number nor 16 hexadecimal digits\n",
+    )
+}
+
+// The line for a file of readings of too few lines, with its LF.
+pub fn too_short(lines: usize) -> Text
+    ensures { λ r. ⌜ (take (r .size) (r .bytes) ≡ shortText lines) × Counts (r .size) (r .bytes) ⌝ }
+{
+    numbered(
+        b"boresheet: readings: the file ends after ",
+        lines,
+        b" of 16 lines\n",
+    )
 }

@@ -1,7 +1,9 @@
 // What the program writes besides the text of a sheet.
 use crate::messages;
+use crate::messages::Text;
 use libc::STDERR_FILENO;
 ghost use mathlib.Core.Path.{_≡_};
+ghost use Rattle.io.specs.Counts.{Counts};
 ghost use Rattle.sheets.specs.Lookup.{sameWord};
 ghost use Rattle.boresheet.specs.Arguments.{asksHelp};
 
@@ -15,25 +17,27 @@ pub fn fail(what: &[u8]) {
     os::fail(what);
 }
 
-// A refusal of the run.
-pub fn refusal(number: u8, line: usize) {
-    let t = messages::refusal(number, line);
+// A line that was made.
+fn put_line(t: Text)
+    requires { ⌜ Counts (t .size) (t .bytes) ⌝ }
+{
     let bytes = t.bytes;
     let n = t.size;
     put(&bytes[..n]);
 }
 
+// A refusal of the run.
+pub fn refusal(number: u8, line: usize) {
+    put_line(messages::refusal(number, line));
+}
+
 // The file of readings has a line that is none.
 pub fn bad_line(line: usize) {
-    put(b"boresheet: readings: line ");
-    io::print_decimal(STDERR_FILENO, line as u64);
-    put(b" is neither a number nor 16 hexadecimal digits\n");
+    put_line(messages::bad_line(line));
 }
 
 pub fn too_short(lines: usize) {
-    put(b"boresheet: readings: the file ends after ");
-    io::print_decimal(STDERR_FILENO, lines as u64);
-    put(b" of 16 lines\n");
+    put_line(messages::too_short(lines));
 }
 
 pub fn too_long() {
