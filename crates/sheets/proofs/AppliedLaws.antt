@@ -1,22 +1,33 @@
--- The machine's step at a row is the operator's answer, with the test of refusal 7; and the arguments of a bracket one by one. Assumes nothing.
-use mathlib.Core.Path.{_≡_, refl, sym, ap, subst}
+-- The machine's step at a row is the operator's answer, with the test of refusal 7; the row by its word's code; and the arguments of a bracket one by one. Assumes nothing.
+use mathlib.Core.Path.{_≡_, refl, sym, ap, subst, _∙_}
 use native.Mathlib.Omega.{arith}
 use mathlib.Core.List.{List, [], _∷_}
 use mathlib.Core.Option.{Option, none, some}
-use mathlib.Core.Bool.{Bool, true, false}
+use mathlib.Core.Bool.{Bool, true, false, _&&_, _||_, not}
 use Prim.Native.Nat.{ℕ, zero, suc, _≤_}
+use lib.Dec.{T, eqb, eqb-refl, T-not}
 use lib.ListN.{length, take, getD}
 use lib.Seq.{take-all}
+use mir.Facts.{and-yes}
+use mir.Val.{hasKey}
+use borrow.Author.Tests.{eqb-true}
 use Rattle.frames.specs.declared.ellipsoid.Ellipsoid.{Ellipsoid}
 use Rattle.sheets.specs.declared.value.Value.{Value}
 use Rattle.sheets.specs.declared.args.Applied.{Applied}
 use Rattle.sheets.specs.declared.args.Applied.the-variants.{Value as value, NoRow, Centre}
-use Rattle.sheets.specs.Table.{on, table}
-use Rattle.sheets.specs.Lookup.{Hit}
+use Rattle.sheets.specs.Text.{Word}
+use Rattle.sheets.specs.Grammar.{IsWord}
+use Rattle.sheets.specs.code.Codes.{codeOf}
+use Rattle.sheets.specs.Letters.{hold}
+use Rattle.sheets.specs.Table.{Row, on, table}
+use Rattle.sheets.specs.Lookup.{Hit, hit, find}
 use Rattle.sheets.specs.Refusals.{centre}
 use Rattle.sheets.specs.Machine.{Out, stops, sticks, result, provided, applyRow}
-use Rattle.sheets.specs.code.Applied.{unlessNear, applied, Applies}
-use Rattle.sheets.proofs.WordLaws.{no-row}
+use Rattle.sheets.specs.code.Applied.{unlessNear, applied, findBy, Applies}
+use Rattle.sheets.specs.code.KindCodes.{Missed}
+use Rattle.sheets.proofs.HeldLaws.{wrong-length}
+use Rattle.sheets.proofs.WordLaws.{spelt, spelt-is, missed-none}
+use Rattle.sheets.proofs.KindRowLaws.{words-agree, rowsSpelt, rows-spelt}
 
 -- what the machine's step comes to by the answer
 abbrev pub outOf : Applied → Out Value
@@ -31,6 +42,50 @@ by-test false x = refl
 pub apply-row : (e : Ellipsoid) (o : Option Hit) → applyRow e o ≡ outOf (applied e o)
 apply-row e none = refl
 apply-row e (some h) = by-test (on (h .row .takes) (h .row .centred e) (h .args)) (on (h .row .takes) (h .row .apply e) (h .args))
+
+-- ---- an operator by its code
+
+rows-by : (rs : List Row) → T (rowsSpelt rs) → (w : Word) → IsWord w → (vs : List Value) → find rs w vs ≡ findBy rs (codeOf w) vs
+unfolding find findBy
+rows-by [] t w hw vs = refl
+rows-by (r ∷ rs) t w hw vs =
+    let h = and-yes (spelt (r .word)) (rowsSpelt rs) t in
+    rw (words-agree (r .word) w (spelt-is (r .word) (h .0)) hw, rows-by rs (h .1) w hw vs) refl
+
+-- the row for a word is the row for its code
+pub find-by : (w : Word) → IsWord w → (vs : List Value) → find table w vs ≡ findBy table (codeOf w) vs
+find-by w hw vs = rows-by table rows-spelt w hw vs
+
+-- an arm: the word v has the code
+pub arm : (v : Word) → T (spelt v) → (e : Ellipsoid) (vs : List Value) (r : Applied) → r ≡ applied e (find table v vs) → (c : ℕ) → c ≡ codeOf v → Applies e c vs r
+arm v hv e vs r h c q = record { is = h ∙ ap (applied e) (find-by v (spelt-is v hv) vs ∙ ap (λ x. findBy table x vs) (sym q)) }
+
+-- of each row: its code is among these, or it takes another count of arguments
+abbrev apart : ℕ → List ℕ → Row → Bool
+apart n ks r = hasKey ks (codeOf (r .word)) || not (eqb n (length (r .takes)))
+
+abbrev allApart : ℕ → List Row → List ℕ → Bool
+allApart n [] ks = true
+allApart n (r ∷ rs) ks = apart n ks r && allApart n rs ks
+
+none-by : (rs : List Row) (ks : List ℕ) (vs : List Value) → T (allApart (length vs) rs ks) → (c : ℕ) → Missed ks c → findBy rs c vs ≡ none
+unfolding findBy
+none-by [] ks vs t c m = refl
+none-by (r ∷ rs) ks vs t c m =
+    let h = and-yes (apart (length vs) ks r) (allApart (length vs) rs ks) t in
+    go (eqb (codeOf (r .word)) c) refl (h .0) ∙ none-by rs ks vs (h .1) c m
+  where
+    taken : (b : Bool) → hasKey ks (codeOf (r .word)) ≡ b → T (b || not (eqb (length vs) (length (r .takes)))) → codeOf (r .word) ≡ c → hit r true (hold (r .takes) vs) (findBy rs c vs) ≡ findBy rs c vs
+    taken true p i q = absurd (missed-none ks c (subst T (sym (ap (hasKey ks) (sym q) ∙ p)) tt) m)
+    taken false p i q = ap (λ z. hit r true z (findBy rs c vs)) (wrong-length (r .takes) vs (λ e. T-not (eqb (length vs) (length (r .takes))) i (subst (λ k. T (eqb (length vs) k)) e (eqb-refl (length vs)))))
+
+    go : (b : Bool) → eqb (codeOf (r .word)) c ≡ b → T (apart (length vs) ks r) → hit r b (hold (r .takes) vs) (findBy rs c vs) ≡ findBy rs c vs
+    go true h i = taken (hasKey ks (codeOf (r .word))) refl i (eqb-true (codeOf (r .word)) c h)
+    go false h i = refl
+
+-- the last arm
+pub no-row : (ks : List ℕ) (e : Ellipsoid) (vs : List Value) → T (allApart (length vs) table ks) → (c : ℕ) → Missed ks c → Applies e c vs NoRow
+no-row ks e vs t c m = record { is = sym (ap (applied e) (none-by table ks vs t c m)) }
 
 -- ---- the first of five arguments, one by one
 
@@ -49,7 +104,7 @@ first-are (p ∷ q ∷ j ∷ s ∷ t ∷ u ∷ a) h d = absurd (omega arith)
 module _ (e : Ellipsoid) (code : ℕ) (a : List Value) (n : ℕ) where
   pub applies-none : n ≡ 0 → Applies e code (take n a) NoRow
   unfolding table
-  applies-none h = record { is = λ w hw q. rw h (sym (ap (applied e) (no-row table [] [] tt w tt))) }
+  applies-none h = rw h (no-row [] e [] tt code tt)
 
   pub applies-first : (k : ℕ) → n ≡ k → (r : Applied) → Applies e code (take k a) r → Applies e code (take n a) r
   applies-first k h r t = subst (λ j. Applies e code (take j a) r) (sym h) t

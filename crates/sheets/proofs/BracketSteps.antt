@@ -12,23 +12,19 @@ use Rattle.sheets.specs.declared.value.Value.{Value}
 use Rattle.sheets.specs.declared.args.Applied.{Applied}
 use Rattle.sheets.specs.declared.bytes.WordRead.{WordRead}
 use Rattle.sheets.specs.declared.expr.Read.{Read}
-use Rattle.sheets.specs.Text.{Word}
 use Rattle.sheets.specs.Trees.{Exprs, nil}
-use Rattle.sheets.specs.Grammar.{IsWord}
-use Rattle.sheets.specs.code.Codes.{codeOf}
 use Rattle.sheets.specs.Limits.{inLimit}
 use Rattle.sheets.specs.Names.{Known}
 use Rattle.sheets.specs.Table.{table}
-use Rattle.sheets.specs.Lookup.{find}
 use Rattle.sheets.specs.Refusals.{stop, refusalNumber}
 use Rattle.sheets.specs.code.Reader.{got, readWord, readArgs, readExpr}
 use Rattle.sheets.specs.code.Views.{place, coded}
-use Rattle.sheets.specs.code.Applied.{Applies}
+use Rattle.sheets.specs.code.Applied.{findBy, Applies}
 use Rattle.sheets.specs.Machine.{Out, goes, stops, sticks, after, then as thenᵒ, test, met, made, applyRow, eval, evals}
 use Rattle.sheets.proofs.ReaderLaws.{close-read}
 use Rattle.sheets.proofs.ExprSteps.{not-close, args-none, args-other}
 use Rattle.sheets.proofs.Inverse.{not-read, arg-read, form-read}
-use Rattle.sheets.proofs.AppliedLaws.{outOf, apply-row}
+use Rattle.sheets.proofs.AppliedLaws.{outOf, apply-row, find-by}
 use Rattle.sheets.specs.code.Evaluating.{evaluated, Evals, EvalsWith, RowHas, Bracket, BracketWith}
 use Rattle.sheets.specs.declared.eval.Evaluated.{Evaluated}
 
@@ -43,11 +39,16 @@ unfolding evaluated
 test-same fs hs true x n = refl
 test-same fs hs false x n = refl
 
+then-same : {f g : List Value → Out Value} (o : Out (List Value)) (n : ℕ) → ((us : List Value) → f us ≡ g us) → evaluated (thenᵒ o f) n ≡ evaluated (thenᵒ o g) n
+then-same (goes hs us) n h = ap (λ o. evaluated (after hs o) n) (h us)
+then-same (stops hs r) n h = refl
+then-same (sticks hs) n h = refl
+
 -- ---- the row
 
 module _ (e : Ellipsoid) (k : ℕ) (vs : List Value) (y : Applied) (ey : Applies e k vs y) (j : ℕ) where
   row-is : (q : Evaluated) → q ≡ evaluated (outOf y) j → RowHas e k vs j q
-  row-is q eq = record { is = λ w iw ek. eq ∙ ap (λ t. evaluated (outOf t) j) (ey .is w iw ek) ∙ ap (λ o. evaluated o j) (sym (apply-row e (find table w vs))) }
+  row-is q eq = record { is = eq ∙ ap (λ t. evaluated (outOf t) j) (ey .is) ∙ ap (λ o. evaluated o j) (sym (apply-row e (findBy table k vs))) }
 
   pub row-value : (v : Value) → y ≡ Applied.Value v → (q : Evaluated) → q ≡ evaluated (met v) j → RowHas e k vs j q
   row-value v ev q eq = row-is q (eq ∙ test-same [] (made v) (inLimit v) v j ∙ ap (λ t. evaluated (outOf t) j) (sym ev))
@@ -69,24 +70,24 @@ evals-form s at b eb depth h d r er k m hr e ks fs q hq = record {
   is = λ ps rd p ep sp. record {
     is = λ x n gx.
         let (w, es, iw, ek, ea, ee) = form-read s at b eb depth h d r er k m hr x n gx in
-        rw ee (hq .is ps rd .is w iw (sym ek) es n ea);
+        rw ee (hq .is ps rd .is es n ea ∙ then-same (evals es e ps) n (λ us. ap (applyRow e) (ap (λ c. findBy table c us) ek ∙ sym (find-by w iw us))));
   };
 }
 
 -- ---- the arguments
 
 bracket-bad : (s : List ℕ) (at depth left : ℕ) (e : Ellipsoid) (k : ℕ) (ps : Known Value) (vs : List Value) (r : Evaluated) → Read.Bad ≡ place (readArgs (readExpr depth s) left s at) → Bracket s at depth left e k ps vs r
-bracket-bad s at depth left e k ps vs r h = record { is = λ w iw ek es n g. not-read (readArgs (readExpr depth s) left s at) es n h g }
+bracket-bad s at depth left e k ps vs r h = record { is = λ es n g. not-read (readArgs (readExpr depth s) left s at) es n h g }
 
 module _ (s : List ℕ) (at b : ℕ) (eb : b ≡ getD s at 0) (depth left : ℕ) (e : Ellipsoid) (k : ℕ) (ps : Known Value) (vs : List Value) where
   pub bracket-closed : b ≡ 41 → (r : Evaluated) → RowHas e k vs (at + 1) r → Bracket s at depth left e k ps vs r
   unfolding evals
   bracket-closed h r hr = record {
-    is = λ w iw ek es n g.
+    is = λ es n g.
         let q = close-read (readExpr depth s) s at b eb left h in
         let ee : es ≡ nil = cc in
         let en : n ≡ at + 1 = cc in
-        rw (ee, en) (hr .is w iw ek ∙ ap (λ us. evaluated (applyRow e (find table w us)) (at + 1)) (sym (append-nil vs)) ∙ sym (after-same [] (applyRow e (find table w (vs ++ []))) (at + 1)));
+        rw (ee, en) (hr .is ∙ ap (λ us. evaluated (applyRow e (findBy table k us)) (at + 1)) (sym (append-nil vs)) ∙ sym (after-same [] (applyRow e (findBy table k (vs ++ []))) (at + 1)));
   }
 
   pub bracket-sixth : b ≡ 32 → left ≡ 0 → (r : Evaluated) → Bracket s at depth left e k ps vs r
@@ -97,54 +98,54 @@ module _ (s : List ℕ) (at b : ℕ) (eb : b ≡ getD s at 0) (depth left : ℕ)
 
   module _ (h : b ≡ 32) (l : left ≡ 0 → ⊥) (r : Evaluated) (hr : Evals s (at + 1) depth e ps r) where
     -- the first argument and the rest
-    args-are : (q : Evaluated) → ((w : Word) → IsWord w → codeOf w ≡ k → (m : ℕ) (xs : Exprs) (n : ℕ) → readArgs (readExpr depth s) (left - 1) s m ≡ got xs n → (o : Out Value) → r ≡ evaluated o m → q ≡ evaluated (thenᵒ (thenᵒ o (λ y. thenᵒ (evals xs e ps) (λ ys. goes [] (y ∷ ys)))) (λ us. applyRow e (find table w (vs ++ us)))) n)
+    args-are : (q : Evaluated) → ((m : ℕ) (xs : Exprs) (n : ℕ) → readArgs (readExpr depth s) (left - 1) s m ≡ got xs n → (o : Out Value) → r ≡ evaluated o m → q ≡ evaluated (thenᵒ (thenᵒ o (λ y. thenᵒ (evals xs e ps) (λ ys. goes [] (y ∷ ys)))) (λ us. applyRow e (findBy table k (vs ++ us)))) n)
         → Bracket s at depth left e k ps vs q
     unfolding evals
     args-are q f = record {
-      is = λ w iw ek es n p.
+      is = λ es n p.
           let (x, m, xs, ex, ef, ee) = arg-read (readExpr depth s) s at b eb left l h es n p in
-          rw ee (f w iw ek m xs n ef (eval x e ps) (hr .is x m ex));
+          rw ee (f m xs n ef (eval x e ps) (hr .is x m ex));
     }
 
     pub bracket-stopped : (j : ℕ) → r ≡ Evaluated.Stops j → Bracket s at depth left e k ps vs (Evaluated.Stops j)
     unfolding evaluated
-    bracket-stopped j er = args-are _ (λ w iw ek m xs n ef o p. go w xs m n o (sym er ∙ p))
+    bracket-stopped j er = args-are _ (λ m xs n ef o p. go xs m n o (sym er ∙ p))
       where
-        go : (w : Word) (xs : Exprs) (m n : ℕ) (o : Out Value) → Evaluated.Stops j ≡ evaluated o m → Evaluated.Stops j ≡ evaluated (thenᵒ (thenᵒ o (λ y. thenᵒ (evals xs e ps) (λ ys. goes [] (y ∷ ys)))) (λ us. applyRow e (find table w (vs ++ us)))) n
-        go w xs m n (goes hs u) p = let z : _≡_ {A = ℕ} 0 1 = cc in absurd (omega arith)
-        go w xs m n (stops hs c) p = let i : j ≡ refusalNumber (stop c) = cc in ap Evaluated.Stops i
-        go w xs m n (sticks hs) p = let z : _≡_ {A = ℕ} 0 1 = cc in absurd (omega arith)
+        go : (xs : Exprs) (m n : ℕ) (o : Out Value) → Evaluated.Stops j ≡ evaluated o m → Evaluated.Stops j ≡ evaluated (thenᵒ (thenᵒ o (λ y. thenᵒ (evals xs e ps) (λ ys. goes [] (y ∷ ys)))) (λ us. applyRow e (findBy table k (vs ++ us)))) n
+        go xs m n (goes hs u) p = let z : _≡_ {A = ℕ} 0 1 = cc in absurd (omega arith)
+        go xs m n (stops hs c) p = let i : j ≡ refusalNumber (stop c) = cc in ap Evaluated.Stops i
+        go xs m n (sticks hs) p = let z : _≡_ {A = ℕ} 0 1 = cc in absurd (omega arith)
 
     pub bracket-stuck : r ≡ Evaluated.Sticks → Bracket s at depth left e k ps vs Evaluated.Sticks
     unfolding evaluated
-    bracket-stuck er = args-are _ (λ w iw ek m xs n ef o p. go w xs m n o (sym er ∙ p))
+    bracket-stuck er = args-are _ (λ m xs n ef o p. go xs m n o (sym er ∙ p))
       where
-        go : (w : Word) (xs : Exprs) (m n : ℕ) (o : Out Value) → Evaluated.Sticks ≡ evaluated o m → Evaluated.Sticks ≡ evaluated (thenᵒ (thenᵒ o (λ y. thenᵒ (evals xs e ps) (λ ys. goes [] (y ∷ ys)))) (λ us. applyRow e (find table w (vs ++ us)))) n
-        go w xs m n (goes hs u) p = let z : _≡_ {A = ℕ} 0 1 = cc in absurd (omega arith)
-        go w xs m n (stops hs c) p = let z : _≡_ {A = ℕ} 0 1 = cc in absurd (omega arith)
-        go w xs m n (sticks hs) p = refl
+        go : (xs : Exprs) (m n : ℕ) (o : Out Value) → Evaluated.Sticks ≡ evaluated o m → Evaluated.Sticks ≡ evaluated (thenᵒ (thenᵒ o (λ y. thenᵒ (evals xs e ps) (λ ys. goes [] (y ∷ ys)))) (λ us. applyRow e (findBy table k (vs ++ us)))) n
+        go xs m n (goes hs u) p = let z : _≡_ {A = ℕ} 0 1 = cc in absurd (omega arith)
+        go xs m n (stops hs c) p = let z : _≡_ {A = ℕ} 0 1 = cc in absurd (omega arith)
+        go xs m n (sticks hs) p = refl
 
     pub bracket-more : (v : Value) (end : ℕ) → r ≡ Evaluated.Is v end → (us : List Value) → us ≡ vs ++ (v ∷ []) → (q : Evaluated) → Bracket s end depth (left - 1) e k ps us q → Bracket s at depth left e k ps vs q
     unfolding evaluated
-    bracket-more v end er us eus q hq = args-are q (λ w iw ek m xs n ef o p. go w iw ek xs m n ef o (sym er ∙ p))
+    bracket-more v end er us eus q hq = args-are q (λ m xs n ef o p. go xs m n ef o (sym er ∙ p))
       where
-        row : Word → List Value → Out Value
-        row w ys = applyRow e (find table w ys)
+        row : List Value → Out Value
+        row ys = applyRow e (findBy table k ys)
 
-        rest : (w : Word) (hs : List LocalFrame) (n : ℕ) (o : Out (List Value)) → q ≡ evaluated (thenᵒ o (λ ys. row w (us ++ ys))) n → q ≡ evaluated (thenᵒ (after hs (thenᵒ o (λ ys. goes [] (v ∷ ys)))) (λ ys. row w (vs ++ ys))) n
-        rest w hs n (goes gs ys) p =
-            p ∙ after-same gs (row w (us ++ ys)) n
-            ∙ ap (λ t. evaluated (row w t) n) (ap (λ t. t ++ ys) eus ∙ append-assoc vs (v ∷ []) ys)
-            ∙ sym (after-same _ (row w (vs ++ (v ∷ ys))) n)
-        rest w hs n (stops gs c) p = p
-        rest w hs n (sticks gs) p = p
+        rest : (hs : List LocalFrame) (n : ℕ) (o : Out (List Value)) → q ≡ evaluated (thenᵒ o (λ ys. row (us ++ ys))) n → q ≡ evaluated (thenᵒ (after hs (thenᵒ o (λ ys. goes [] (v ∷ ys)))) (λ ys. row (vs ++ ys))) n
+        rest hs n (goes gs ys) p =
+            p ∙ after-same gs (row (us ++ ys)) n
+            ∙ ap (λ t. evaluated (row t) n) (ap (λ t. t ++ ys) eus ∙ append-assoc vs (v ∷ []) ys)
+            ∙ sym (after-same _ (row (vs ++ (v ∷ ys))) n)
+        rest hs n (stops gs c) p = p
+        rest hs n (sticks gs) p = p
 
-        go : (w : Word) → IsWord w → codeOf w ≡ k → (xs : Exprs) (m n : ℕ) → readArgs (readExpr depth s) (left - 1) s m ≡ got xs n → (o : Out Value) → Evaluated.Is v end ≡ evaluated o m
-            → q ≡ evaluated (thenᵒ (thenᵒ o (λ y. thenᵒ (evals xs e ps) (λ ys. goes [] (y ∷ ys)))) (λ us. applyRow e (find table w (vs ++ us)))) n
-        go w iw ek xs m n ef (goes hs u) p =
+        go : (xs : Exprs) (m n : ℕ) → readArgs (readExpr depth s) (left - 1) s m ≡ got xs n → (o : Out Value) → Evaluated.Is v end ≡ evaluated o m
+            → q ≡ evaluated (thenᵒ (thenᵒ o (λ y. thenᵒ (evals xs e ps) (λ ys. goes [] (y ∷ ys)))) (λ us. applyRow e (findBy table k (vs ++ us)))) n
+        go xs m n ef (goes hs u) p =
             let iu : v ≡ u = cc in
             let im : end ≡ m = cc in
-            rest w hs n (evals xs e ps) (hq .is w iw ek xs n (ap (λ t. readArgs (readExpr depth s) (left - 1) s t) im ∙ ef))
-            ∙ ap (λ t. evaluated (thenᵒ (after hs (thenᵒ (evals xs e ps) (λ ys. goes [] (t ∷ ys)))) (λ us. applyRow e (find table w (vs ++ us)))) n) iu
-        go w iw ek xs m n ef (stops hs c) p = let z : _≡_ {A = ℕ} 0 1 = cc in absurd (omega arith)
-        go w iw ek xs m n ef (sticks hs) p = let z : _≡_ {A = ℕ} 0 1 = cc in absurd (omega arith)
+            rest hs n (evals xs e ps) (hq .is xs n (ap (λ t. readArgs (readExpr depth s) (left - 1) s t) im ∙ ef))
+            ∙ ap (λ t. evaluated (thenᵒ (after hs (thenᵒ (evals xs e ps) (λ ys. goes [] (t ∷ ys)))) (λ us. applyRow e (findBy table k (vs ++ us)))) n) iu
+        go xs m n ef (stops hs c) p = let z : _≡_ {A = ℕ} 0 1 = cc in absurd (omega arith)
+        go xs m n ef (sticks hs) p = let z : _≡_ {A = ℕ} 0 1 = cc in absurd (omega arith)

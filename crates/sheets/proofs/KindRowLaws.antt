@@ -184,7 +184,7 @@ no-kind js ks t c k m n = record { is = no-number (kindRows table) js ks t c k m
 
 -- ---- the operators' words
 
-abbrev rowsSpelt : List Row → Bool
+abbrev pub rowsSpelt : List Row → Bool
 rowsSpelt [] = true
 rowsSpelt (r ∷ rs) = spelt (r .word) && rowsSpelt rs
 
@@ -194,7 +194,7 @@ opens-by (r ∷ rs) t w hw =
     let h = and-yes (spelt (r .word)) (rowsSpelt rs) t in
     rw (words-agree (r .word) w (spelt-is (r .word) (h .0)) hw, opens-by rs (h .1) w hw) refl
 
-rows-spelt : T (rowsSpelt table)
+pub rows-spelt : T (rowsSpelt table)
 unfolding table
 rows-spelt = tt
 

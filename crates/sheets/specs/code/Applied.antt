@@ -4,6 +4,7 @@ use mathlib.Core.List.{List, [], _∷_}
 use mathlib.Core.Option.{Option, none, some}
 use mathlib.Core.Bool.{Bool, true, false}
 use Prim.Native.Nat.{ℕ}
+use lib.Dec.{eqb}
 use Rattle.frames.specs.declared.ellipsoid.Ellipsoid.{Ellipsoid}
 use Rattle.frames.specs.declared.orientation.Orientation.{Orientation}
 use Rattle.frames.specs.declared.orientation.Orientation.the-variants.{Enu, Ned, Body, Wan}
@@ -13,11 +14,10 @@ use Rattle.sheets.specs.declared.args.Applied.the-variants.{Value as val
 use Rattle.sheets.specs.declared.args.Lengths.{Lengths}
 use Rattle.sheets.specs.declared.args.Aer.{Aer}
 use Rattle.sheets.specs.Text.{Word, ascii}
-use Rattle.sheets.specs.Grammar.{IsWord}
 use Rattle.sheets.specs.code.Codes.{codeOf}
-use Rattle.sheets.specs.Letters.{Holds, 𝐚, 𝐥}
-use Rattle.sheets.specs.Table.{on, table}
-use Rattle.sheets.specs.Lookup.{Hit, find}
+use Rattle.sheets.specs.Letters.{Holds, hold, 𝐚, 𝐥}
+use Rattle.sheets.specs.Table.{Row, on, table}
+use Rattle.sheets.specs.Lookup.{Hit, hit}
 
 -- ---- the answer
 
@@ -32,9 +32,14 @@ applied e (some h) =
     let r = h .row in
     unlessNear (on (r .takes) (r .centred e) (h .args)) (value (on (r .takes) (r .apply e) (h .args)))
 
--- the answer for the word that has the code
+-- the first row whose word has the code and which takes these values
+unfoldable pub findBy : List Row → ℕ → List Value → Option Hit
+findBy [] c vs = none
+findBy (r ∷ rs) c vs = hit r (eqb (codeOf (r .word)) c) (hold (r .takes) vs) (findBy rs c vs)
+
+-- r is its answer
 pub record Applies (e : Ellipsoid) (code : ℕ) (vs : List Value) (r : Applied) : Type 0 where
-  pub is : (w : Word) → IsWord w → codeOf w ≡ code → r ≡ applied e (find table w vs)
+  pub is : r ≡ applied e (findBy table code vs)
 
 -- ---- the arguments
 

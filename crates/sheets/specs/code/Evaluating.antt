@@ -7,12 +7,9 @@ use lib.ListN.{getD}
 use lib.Ieee.{Float}
 use Rattle.frames.specs.declared.ellipsoid.Ellipsoid.{Ellipsoid}
 use Rattle.sheets.specs.declared.value.Value.{Value}
-use Rattle.sheets.specs.Text.{Word}
 use Rattle.sheets.specs.Trees.{Expr, Exprs}
-use Rattle.sheets.specs.Grammar.{IsWord}
-use Rattle.sheets.specs.code.Codes.{codeOf}
 use Rattle.sheets.specs.Table.{table}
-use Rattle.sheets.specs.Lookup.{find}
+use Rattle.sheets.specs.code.Applied.{findBy}
 use Rattle.sheets.specs.code.Reader.{got, readArgs, readLeaf, readExpr}
 use Rattle.sheets.specs.Names.{Known}
 use Rattle.sheets.specs.Refusals.{stop, refusalNumber}
@@ -32,13 +29,13 @@ pub record Evals (s : List ℕ) (at depth : ℕ) (e : Ellipsoid) (ps : Known Val
 
 -- ---- a bracket
 
--- r is what the machine makes of a row for the word that has the code, over these values
+-- r is what the machine makes of the row for the code of a word, over these values
 pub record RowHas (e : Ellipsoid) (code : ℕ) (vs : List Value) (n : ℕ) (r : Evaluated) : Type 0 where
-  pub is : (w : Word) → IsWord w → codeOf w ≡ code → r ≡ evaluated (applyRow e (find table w vs)) n
+  pub is : r ≡ evaluated (applyRow e (findBy table code vs)) n
 
 -- r is what the machine makes of a bracket from a place on: of its arguments there, at most `left`, after the values vs, and then of its row
 pub record Bracket (s : List ℕ) (at depth left : ℕ) (e : Ellipsoid) (code : ℕ) (ps : Known Value) (vs : List Value) (r : Evaluated) : Type 0 where
-  pub is : (w : Word) → IsWord w → codeOf w ≡ code → (xs : Exprs) (n : ℕ) → readArgs (readExpr depth s) left s at ≡ got xs n → r ≡ evaluated (then (evals xs e ps) (λ us. applyRow e (find table w (vs ++ us)))) n
+  pub is : (xs : Exprs) (n : ℕ) → readArgs (readExpr depth s) left s at ≡ got xs n → r ≡ evaluated (then (evals xs e ps) (λ us. applyRow e (findBy table code (vs ++ us)))) n
 
 -- ---- over operands: for the known words that they were found among; an expression stands after a space
 

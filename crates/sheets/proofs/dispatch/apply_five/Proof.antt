@@ -1,13 +1,10 @@
 -- `sheets::dispatch::apply_five` meets its contract. Assumes nothing.
-use mathlib.Core.Path.{sym, ap, _∙_, subst}
 use mathlib.Core.List.{List, [], _∷_}
 use Prim.Native.Nat.{ℕ}
 use Rattle.sheets.specs.Text.{ascii}
 use Rattle.sheets.specs.code.Codes.{wordChar, codeFrom}
 use Rattle.sheets.specs.Table.{table}
-use Rattle.sheets.specs.code.Applied.{applied}
-use Rattle.sheets.specs.code.KindCodes.{Missed}
-use Rattle.sheets.proofs.WordLaws.{arm, no-row}
+use Rattle.sheets.proofs.AppliedLaws.{arm, no-row}
 use borrow.Author.Needs.{needs}
 use Rattle.sheets.proofs.dispatch.apply_five.Statement.{statement}
 use Rattle.sheets.proofs.dispatch.apply_five.Tie as tie
@@ -17,7 +14,7 @@ apply-move-requires c κs = search needs
 
 returns : tie.Need-returns
 unfolding wordChar codeFrom
-returns c = record { is = λ w h q. arm (ascii "move") tt _ _ _ (c .apply-move .ensures) w h (q ∙ c .before .match .keys1) }
+returns c = arm (ascii "move") tt _ _ _ (c .apply-move .ensures) _ (c .before .match .keys1)
 
 -- the codes of the arms, the last first
 abbrev codes : List ℕ
@@ -25,7 +22,7 @@ codes = 679843 ∷ []
 
 returns-2 : tie.Need-returns-2
 unfolding table wordChar codeFrom
-returns-2 c = record { is = λ w h q. sym (ap (applied _) (no-row table codes (c .before .args .p ∷ c .before .args .q ∷ c .before .args .j ∷ c .before .args .s ∷ c .before .args .t ∷ []) tt w (subst (Missed codes) (sym q) (c .match .rest)))) }
+returns-2 c = no-row codes _ (c .before .args .p ∷ c .before .args .q ∷ c .before .args .j ∷ c .before .args .s ∷ c .before .args .t ∷ []) tt _ (c .match .rest)
 
 pub apply-five-spec : {M : Type 1} → statement M
 apply-five-spec = tie.close (tie.spec apply-move-requires returns returns-2)

@@ -1,13 +1,10 @@
 -- `sheets::dispatch::apply_one` meets its contract. Assumes nothing.
-use mathlib.Core.Path.{sym, ap, _∙_, subst}
 use mathlib.Core.List.{List, [], _∷_}
 use Prim.Native.Nat.{ℕ}
 use Rattle.sheets.specs.Text.{ascii}
 use Rattle.sheets.specs.code.Codes.{wordChar, codeFrom}
 use Rattle.sheets.specs.Table.{table}
-use Rattle.sheets.specs.code.Applied.{applied}
-use Rattle.sheets.specs.code.KindCodes.{Missed}
-use Rattle.sheets.proofs.WordLaws.{arm, no-row}
+use Rattle.sheets.proofs.AppliedLaws.{arm, no-row}
 use borrow.Author.Needs.{needs}
 use Rattle.sheets.proofs.dispatch.apply_one.Statement.{statement}
 use Rattle.sheets.proofs.dispatch.apply_one.Tie as tie
@@ -59,63 +56,63 @@ apply-rx-requires c κs = search needs
 
 returns : tie.Need-returns
 unfolding wordChar codeFrom
-returns c = record { is = λ w h q. arm (ascii "deg") tt _ _ _ (c .apply-deg .ensures) w h (q ∙ c .before .match .keys1) }
+returns c = arm (ascii "deg") tt _ _ _ (c .apply-deg .ensures) _ (c .before .match .keys1)
 
 returns-2 : tie.Need-returns-2
 unfolding wordChar codeFrom
-returns-2 c = record { is = λ w h q. arm (ascii "m") tt _ _ _ (c .apply-m .ensures) w h (q ∙ c .before .match .keys2) }
+returns-2 c = arm (ascii "m") tt _ _ _ (c .apply-m .ensures) _ (c .before .match .keys2)
 
 returns-3 : tie.Need-returns-3
 unfolding wordChar codeFrom
-returns-3 c = record { is = λ w h q. arm (ascii "togeo") tt _ _ _ (c .apply-togeo .ensures) w h (q ∙ c .before .match .keys3) }
+returns-3 c = arm (ascii "togeo") tt _ _ _ (c .apply-togeo .ensures) _ (c .before .match .keys3)
 
 returns-4 : tie.Need-returns-4
 unfolding wordChar codeFrom
-returns-4 c = record { is = λ w h q. arm (ascii "tolla") tt _ _ _ (c .apply-tolla .ensures) w h (q ∙ c .before .match .keys4) }
+returns-4 c = arm (ascii "tolla") tt _ _ _ (c .apply-tolla .ensures) _ (c .before .match .keys4)
 
 returns-5 : tie.Need-returns-5
 unfolding wordChar codeFrom
-returns-5 c = record { is = λ w h q. arm (ascii "enu") tt _ _ _ (c .apply-enu .ensures) w h (q ∙ c .before .match .keys5) }
+returns-5 c = arm (ascii "enu") tt _ _ _ (c .apply-enu .ensures) _ (c .before .match .keys5)
 
 returns-6 : tie.Need-returns-6
 unfolding wordChar codeFrom
-returns-6 c = record { is = λ w h q. arm (ascii "ned") tt _ _ _ (c .apply-ned .ensures) w h (q ∙ c .before .match .keys6) }
+returns-6 c = arm (ascii "ned") tt _ _ _ (c .apply-ned .ensures) _ (c .before .match .keys6)
 
 returns-7 : tie.Need-returns-7
 unfolding wordChar codeFrom
-returns-7 c = record { is = λ w h q. arm (ascii "neg") tt _ _ _ (c .apply-neg .ensures) w h (q ∙ c .before .match .keys7) }
+returns-7 c = arm (ascii "neg") tt _ _ _ (c .apply-neg .ensures) _ (c .before .match .keys7)
 
 returns-8 : tie.Need-returns-8
 unfolding wordChar codeFrom
-returns-8 c = record { is = λ w h q. arm (ascii "swap") tt _ _ _ (c .apply-swap .ensures) w h (q ∙ c .before .match .keys8) }
+returns-8 c = arm (ascii "swap") tt _ _ _ (c .apply-swap .ensures) _ (c .before .match .keys8)
 
 returns-9 : tie.Need-returns-9
 unfolding wordChar codeFrom
-returns-9 c = record { is = λ w h q. arm (ascii "bearing") tt _ _ _ (c .apply-bearing .ensures) w h (q ∙ c .before .match .keys9) }
+returns-9 c = arm (ascii "bearing") tt _ _ _ (c .apply-bearing .ensures) _ (c .before .match .keys9)
 
 returns-10 : tie.Need-returns-10
 unfolding wordChar codeFrom
-returns-10 c = record { is = λ w h q. arm (ascii "elev") tt _ _ _ (c .apply-elev .ensures) w h (q ∙ c .before .match .keys10) }
+returns-10 c = arm (ascii "elev") tt _ _ _ (c .apply-elev .ensures) _ (c .before .match .keys10)
 
 returns-11 : tie.Need-returns-11
 unfolding wordChar codeFrom
-returns-11 c = record { is = λ w h q. arm (ascii "range") tt _ _ _ (c .apply-range .ensures) w h (q ∙ c .before .match .keys11) }
+returns-11 c = arm (ascii "range") tt _ _ _ (c .apply-range .ensures) _ (c .before .match .keys11)
 
 returns-12 : tie.Need-returns-12
 unfolding wordChar codeFrom
-returns-12 c = record { is = λ w h q. arm (ascii "origin") tt _ _ _ (c .apply-origin .ensures) w h (q ∙ c .before .match .keys12) }
+returns-12 c = arm (ascii "origin") tt _ _ _ (c .apply-origin .ensures) _ (c .before .match .keys12)
 
 returns-13 : tie.Need-returns-13
 unfolding wordChar codeFrom
-returns-13 c = record { is = λ w h q. arm (ascii "rz") tt _ _ _ (c .apply-rz .ensures) w h (q ∙ c .before .match .keys13) }
+returns-13 c = arm (ascii "rz") tt _ _ _ (c .apply-rz .ensures) _ (c .before .match .keys13)
 
 returns-14 : tie.Need-returns-14
 unfolding wordChar codeFrom
-returns-14 c = record { is = λ w h q. arm (ascii "ry") tt _ _ _ (c .apply-ry .ensures) w h (q ∙ c .before .match .keys14) }
+returns-14 c = arm (ascii "ry") tt _ _ _ (c .apply-ry .ensures) _ (c .before .match .keys14)
 
 returns-15 : tie.Need-returns-15
 unfolding wordChar codeFrom
-returns-15 c = record { is = λ w h q. arm (ascii "rx") tt _ _ _ (c .apply-rx .ensures) w h (q ∙ c .before .match .keys15) }
+returns-15 c = arm (ascii "rx") tt _ _ _ (c .apply-rx .ensures) _ (c .before .match .keys15)
 
 -- the codes of the arms, the last first
 abbrev codes : List ℕ
@@ -123,7 +120,7 @@ codes = 690 ∷ 691 ∷ 692 ∷ 1074360060 ∷ 33804981 ∷ 269900 ∷ 548097136
 
 returns-16 : tie.Need-returns-16
 unfolding table wordChar codeFrom
-returns-16 c = record { is = λ w h q. sym (ap (applied _) (no-row table codes (c .before .args .p ∷ []) tt w (subst (Missed codes) (sym q) (c .match .rest)))) }
+returns-16 c = no-row codes _ (c .before .args .p ∷ []) tt _ (c .match .rest)
 
 pub apply-one-spec : {M : Type 1} → statement M
 apply-one-spec = tie.close (tie.spec apply-deg-requires apply-m-requires apply-togeo-requires apply-tolla-requires apply-enu-requires apply-ned-requires apply-neg-requires apply-swap-requires apply-bearing-requires apply-elev-requires apply-range-requires apply-origin-requires apply-rz-requires apply-ry-requires apply-rx-requires returns returns-2 returns-3 returns-4 returns-5 returns-6 returns-7 returns-8 returns-9 returns-10 returns-11 returns-12 returns-13 returns-14 returns-15 returns-16)

@@ -1,13 +1,10 @@
 -- `sheets::dispatch::apply_two` meets its contract. Assumes nothing.
-use mathlib.Core.Path.{sym, ap, _∙_, subst}
 use mathlib.Core.List.{List, [], _∷_}
 use Prim.Native.Nat.{ℕ}
 use Rattle.sheets.specs.Text.{ascii}
 use Rattle.sheets.specs.code.Codes.{wordChar, codeFrom}
 use Rattle.sheets.specs.Table.{table}
-use Rattle.sheets.specs.code.Applied.{applied}
-use Rattle.sheets.specs.code.KindCodes.{Missed}
-use Rattle.sheets.proofs.WordLaws.{arm, no-row}
+use Rattle.sheets.proofs.AppliedLaws.{arm, no-row}
 use borrow.Author.Needs.{needs}
 use Rattle.sheets.proofs.dispatch.apply_two.Statement.{statement}
 use Rattle.sheets.proofs.dispatch.apply_two.Tie as tie
@@ -35,31 +32,31 @@ apply-scale-requires c κs = search needs
 
 returns : tie.Need-returns
 unfolding wordChar codeFrom
-returns c = record { is = λ w h q. arm (ascii "wan") tt _ _ _ (c .apply-wan .ensures) w h (q ∙ c .before .match .keys1) }
+returns c = arm (ascii "wan") tt _ _ _ (c .apply-wan .ensures) _ (c .before .match .keys1)
 
 returns-2 : tie.Need-returns-2
 unfolding wordChar codeFrom
-returns-2 c = record { is = λ w h q. arm (ascii "turn") tt _ _ _ (c .apply-turn .ensures) w h (q ∙ c .before .match .keys2) }
+returns-2 c = arm (ascii "turn") tt _ _ _ (c .apply-turn .ensures) _ (c .before .match .keys2)
 
 returns-3 : tie.Need-returns-3
 unfolding wordChar codeFrom
-returns-3 c = record { is = λ w h q. arm (ascii "to") tt _ _ _ (c .apply-to .ensures) w h (q ∙ c .before .match .keys3) }
+returns-3 c = arm (ascii "to") tt _ _ _ (c .apply-to .ensures) _ (c .before .match .keys3)
 
 returns-4 : tie.Need-returns-4
 unfolding wordChar codeFrom
-returns-4 c = record { is = λ w h q. arm (ascii "at") tt _ _ _ (c .apply-at .ensures) w h (q ∙ c .before .match .keys4) }
+returns-4 c = arm (ascii "at") tt _ _ _ (c .apply-at .ensures) _ (c .before .match .keys4)
 
 returns-5 : tie.Need-returns-5
 unfolding wordChar codeFrom
-returns-5 c = record { is = λ w h q. arm (ascii "add") tt _ _ _ (c .apply-add .ensures) w h (q ∙ c .before .match .keys5) }
+returns-5 c = arm (ascii "add") tt _ _ _ (c .apply-add .ensures) _ (c .before .match .keys5)
 
 returns-6 : tie.Need-returns-6
 unfolding wordChar codeFrom
-returns-6 c = record { is = λ w h q. arm (ascii "sub") tt _ _ _ (c .apply-sub .ensures) w h (q ∙ c .before .match .keys6) }
+returns-6 c = arm (ascii "sub") tt _ _ _ (c .apply-sub .ensures) _ (c .before .match .keys6)
 
 returns-7 : tie.Need-returns-7
 unfolding wordChar codeFrom
-returns-7 c = record { is = λ w h q. arm (ascii "scale") tt _ _ _ (c .apply-scale .ensures) w h (q ∙ c .before .match .keys7) }
+returns-7 c = arm (ascii "scale") tt _ _ _ (c .apply-scale .ensures) _ (c .before .match .keys7)
 
 -- the codes of the arms, the last first
 abbrev codes : List ℕ
@@ -67,7 +64,7 @@ codes = 35762836 ∷ 26790 ∷ 1521 ∷ 57 ∷ 755 ∷ 1042489 ∷ 31538 ∷ []
 
 returns-8 : tie.Need-returns-8
 unfolding table wordChar codeFrom
-returns-8 c = record { is = λ w h q. sym (ap (applied _) (no-row table codes (c .before .args .p ∷ c .before .args .q ∷ []) tt w (subst (Missed codes) (sym q) (c .match .rest)))) }
+returns-8 c = no-row codes _ (c .before .args .p ∷ c .before .args .q ∷ []) tt _ (c .match .rest)
 
 pub apply-two-spec : {M : Type 1} → statement M
 apply-two-spec = tie.close (tie.spec apply-wan-requires apply-turn-requires apply-to-requires apply-at-requires apply-add-requires apply-sub-requires apply-scale-requires returns returns-2 returns-3 returns-4 returns-5 returns-6 returns-7 returns-8)
