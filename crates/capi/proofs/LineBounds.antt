@@ -1,18 +1,18 @@
 -- The line that the check or the run answers is at most 97, so that 32 bits hold it. Assumes nothing.
 use Prim.Native.Nat.{ℕ, suc, _+_, _≤_}
 use native.Mathlib.Omega.{arith}
-use mathlib.Core.Path.{_≡_}
 use mathlib.Core.Bool.{Bool, true, false}
 use mathlib.Core.List.{List, [], _∷_}
 use lib.ListN.{length}
 use lib.Ieee.{Float}
 use Rattle.frames.specs.declared.frame.LocalFrame.{LocalFrame}
 use Rattle.sheets.specs.Trees.{Line, Sheet, numbered}
-use Rattle.sheets.specs.Grammar.{at-head, at-line, at-97, Form, formed, badLine, Reads}
+use Rattle.sheets.specs.Grammar.{Form, formed, badLine, Reads}
 use Rattle.sheets.specs.Refusals.{Checked, fine, bad}
 use Rattle.sheets.specs.Check.{Stateᶜ, stepᶜ, Walked, passes, refuses, onwardᶜ, stepsᶜ, startᶜ, walk}
 use Rattle.sheets.specs.Machine.{Out, goes, stops, sticks, State, step, Ran, done, stopped, stuck, afterwards, onward, steps, start, machine}
 use Rattle.sheets.specs.Answers.{sized, ranged, Verdict, admitted, refused, ofWalked, ofRange, ofForm, ofSize, verdict, checkOf, lentKinds, CheckOwes, Tells, RunOf, lentRun, RunOwes}
+use Rattle.sheets.proofs.FormLaws.{bad-range}
 use Rattle.sheets.specs.declared.answers.CheckAnswer.{CheckAnswer}
 use Rattle.sheets.specs.declared.answers.RunAnswer.{RunAnswer}
 
@@ -76,9 +76,7 @@ settled-range false c l = omega arith
 settled-form : (s : List ℕ) (f : Form Sheet) → Reads s f → Settled (ofForm f)
 unfolding Settled
 settled-form s (formed c) w = settled-range (ranged (c .head)) c (w .1 .2)
-settled-form s (badLine j) (at-head h) = omega arith
-settled-form s (badLine j) (at-line c b r e h w) = omega (arith, h .2)
-settled-form s (badLine j) (at-97 c b r e h n) = omega arith
+settled-form s (badLine j) w = bad-range s j w .1
 
 settled : (l : Bool) (s : List ℕ) (f : Form Sheet) → Reads s f → Settled (verdict l s f)
 unfolding Settled verdict
@@ -105,7 +103,7 @@ run-of (admitted c cs) rs h out out′ a t = tells-line (machine c rs) (steps-bo
 run-of (refused r j) rs h out out′ a (e, o) = rw e h
 
 pub check-line : (s kinds : List ℕ) (a : CheckAnswer) (kinds′ : List ℕ) → CheckOwes s kinds a kinds′ → a .line ≤ 97
-check-line s kinds a kinds′ h = rw (h .answer) (check-of (verdict (lentKinds kinds) s (h .made)) (settled (lentKinds kinds) s (h .made) (h .grammar)))
+check-line s kinds a kinds′ h = rw (h .answer) (check-of (verdict (lentKinds kinds) s (h .form-is)) (settled (lentKinds kinds) s (h .form-is) (h .grammar)))
 
 pub run-line : (s : List ℕ) (rs : List Float) (out : List ℕ) (a : RunAnswer) (out′ : List ℕ) → RunOwes s rs out a out′ → a .line ≤ 97
-run-line s rs out a out′ h = run-of (verdict (lentRun rs out) s (h .made)) rs (settled (lentRun rs out) s (h .made) (h .grammar)) out out′ a (h .answer)
+run-line s rs out a out′ h = run-of (verdict (lentRun rs out) s (h .form-is)) rs (settled (lentRun rs out) s (h .form-is) (h .grammar)) out out′ a (h .answer)

@@ -1,4 +1,4 @@
--- Every frame that is made is sound: its inverse matrix is its direction matrix with rows and columns exchanged, bit for bit, and `Vec3::new` leaves its origin and the rows of both matrices unchanged, so that no entry of a matrix is a minus zero.
+-- A frame made from a position of doubles, whose n-vector `Vec3::new` leaves unchanged, is sound: its inverse matrix is its direction matrix with rows and columns exchanged, bit for bit, and `Vec3::new` leaves its origin and the rows of both matrices unchanged, so that no entry of a matrix is a minus zero.
 -- In a sound frame of finite entries the zero vector leads to the origin, and the origin's vector is the zero vector, bit for bit. Assumes nothing.
 use mathlib.Core.Path.{_≡_, refl, sym, ap, _∙_, subst}
 use lib.Ieee as Ieee
@@ -28,10 +28,6 @@ pub record Sound (f : LocalFrame) : Type 0 where
   pub inverse : f .«inv_rm» ≡ exchanged (f .«dir_rm»)
   pub settled-dir : SettledMat (f .«dir_rm»)
   pub settled : SettledVec (f .origin)
-
--- the inverse matrix is then also what the Rust's `transpose` makes of the direction matrix
-pub sound-transpose : (f : LocalFrame) → Sound f → f .«inv_rm» ≡ transpose (f .«dir_rm»)
-sound-transpose f s = s .inverse ∙ sym (transpose-exchanged (f .«dir_rm») (s .settled-dir))
 
 -- no entry of the direction matrix is a minus zero, and none of the inverse matrix
 pub no-minus-zero : (f : LocalFrame) → Sound f → NoMinusZeros (f .«dir_rm») × NoMinusZeros (f .«inv_rm»)

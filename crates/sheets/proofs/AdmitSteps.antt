@@ -193,10 +193,10 @@ module _ (s : List ℕ) (q : FirstLine) (eq : q ≡ firstOf (readHead s)) (a : A
 
   -- line 1 says x, line 2 stands at m, and f is what the form pass over the lines from there answered
   module _ (m : ℕ) (f : FormRead) (ef : f ≡ linesForm 2 (readLines 95 2 0 s m)) where
-    abbrev Whole : Head → Form (List Line) → Type 0
-    Whole x o = Admits s (ofForm (o thenᶠ (λ ls. formed (record { head = x; lines = ls })))) a
+    abbrev WholeSheet : Head → Form (List Line) → Type 0
+    WholeSheet x o = Admits s (ofForm (o thenᶠ (λ ls. formed (record { head = x; lines = ls })))) a
 
-    whole : (x : Head) → readHead s ≡ got x m → Whole x (readLines 95 2 0 s m) → Admits s (ofForm (readSheet s)) a
+    whole : (x : Head) → readHead s ≡ got x m → WholeSheet x (readLines 95 2 0 s m) → Admits s (ofForm (readSheet s)) a
     unfolding readSheet sheetStep
     whole x eh w = subst (λ o. Admits s (ofForm (sheetStep o (readLines 95 2 0 s))) a) (sym eh) w
 
@@ -204,7 +204,7 @@ module _ (s : List ℕ) (q : FirstLine) (eq : q ≡ firstOf (readHead s)) (a : A
     unfolding linesForm Admits _thenᶠ_
     bad-lines x eh j h ea = whole x eh (go (readLines 95 2 0 s m) (sym ef ∙ h))
       where
-        go : (o : Form (List Line)) → linesForm 2 o ≡ FormRead.Bad j → Whole x o
+        go : (o : Form (List Line)) → linesForm 2 o ≡ FormRead.Bad j → WholeSheet x o
         go (formed ls) e = let z : _≡_ {A = ℕ} 0 1 = cc in absurd (omega arith)
         go (badLine i) e = let k : j ≡ i = cc in ea ∙ ap (λ y. Outcome.Refuses 3 y) k
 
@@ -213,7 +213,7 @@ module _ (s : List ℕ) (q : FirstLine) (eq : q ≡ firstOf (readHead s)) (a : A
     unfolding linesForm _thenᶠ_
     fine-lines x eh n h g = whole x eh (go (readLines 95 2 0 s m) refl (sym ef ∙ h))
       where
-        go : (o : Form (List Line)) → readLines 95 2 0 s m ≡ o → linesForm 2 o ≡ FormRead.Fine n → Whole x o
+        go : (o : Form (List Line)) → readLines 95 2 0 s m ≡ o → linesForm 2 o ≡ FormRead.Fine n → WholeSheet x o
         go (formed ls) eo e = let i : 2 - 1 + length ls ≡ n = cc in g ls eo (omega arith)
         go (badLine i) eo e = let z : _≡_ {A = ℕ} 0 1 = cc in absurd (omega arith)
 

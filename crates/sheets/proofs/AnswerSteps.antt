@@ -26,7 +26,7 @@ use Rattle.sheets.specs.code.Writing.{writes, part}
 use Rattle.sheets.proofs.WritingLaws.{name-written, laid-first}
 use Rattle.sheets.proofs.Sound.{agree}
 use Rattle.sheets.proofs.ClaimHolds.{unstuck, claim}
-use Rattle.sheets.proofs.ConfinedHolds.{confined}
+use Rattle.sheets.proofs.ConfinedHolds.{list-confined, output-confined}
 use Rattle.sheets.proofs.SheetLaws.{reader-reads}
 use Rattle.sheets.specs.Claim.{All}
 use Rattle.numbers.proofs.FitLaws.{Fits}
@@ -50,7 +50,7 @@ abbrev judged : Bool → List ℕ → Verdict
 judged l s = verdict l s (readSheet s)
 
 checks-by : (s kinds : List ℕ) (v : Verdict) → judged (lentKinds kinds) s ≡ v → (r : CheckAnswer) (kinds′ : List ℕ) → r ≡ checkOf v → kinds′ ≡ kindsOfVerdict v kinds → CheckOwes s kinds r kinds′
-checks-by s kinds v e r kinds′ er ek = record { made = readSheet s; grammar = reader-reads s; answer = er ∙ ap checkOf (sym e); left = ek ∙ ap (λ w. kindsOfVerdict w kinds) (sym e) }
+checks-by s kinds v e r kinds′ er ek = record { form-is = readSheet s; grammar = reader-reads s; answer = er ∙ ap checkOf (sym e); left = ek ∙ ap (λ w. kindsOfVerdict w kinds) (sym e) }
 
 yes : (t : Bool) → not t ≡ false → t ≡ true
 yes true e = refl
@@ -111,7 +111,7 @@ module _ (s : List ℕ) (b : Bool) (eb : b ≡ sized s) where
 
   module _ (rs : List Float) (out : List ℕ) where
     ran-by : (v : Verdict) → judged (lentRun rs out) s ≡ v → (r : RunAnswer) (out′ : List ℕ) → RunOf v rs out r out′ → RunOwes s rs out r out′
-    ran-by v e r out′ h = record { made = readSheet s; grammar = reader-reads s; answer = subst (λ w. RunOf w rs out r out′) (sym e) h }
+    ran-by v e r out′ h = record { form-is = readSheet s; grammar = reader-reads s; answer = subst (λ w. RunOf w rs out r out′) (sym e) h }
 
     pub run-size : not b ≡ true → (r : RunAnswer) → r ≡ record { number = 1; line = 0; written = 0 } → RunOwes s rs out r out
     run-size h r er = ran-by (refused size 0) (too-large h (lentRun rs out)) r out (er, refl)
@@ -178,6 +178,7 @@ pub both : (S : List ℕ) (R : List Float) (kinds out : List ℕ) (r : BothAnswe
 both S R kinds out r kinds′ out′ hc hr fits = record {
   checked = hc;
   ran = hr;
-  confined = confined S R kinds out (r .checked) kinds′ hc (r .ran) out′ hr;
+  list-confined = list-confined S kinds (r .checked) kinds′ hc;
+  output-confined = output-confined S R out (r .ran) out′ hr;
   claimed = λ k n o. claim S R kinds out k n o fits (r .checked) kinds′ hc (r .ran) out′ hr;
 }

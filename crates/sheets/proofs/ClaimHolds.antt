@@ -2,10 +2,10 @@
 use mathlib.Core.Path.{_≡_, refl, sym, ap, _∙_, subst}
 use mathlib.Core.List.{List, [], _∷_, _++_}
 use mathlib.Core.Bool.{Bool, true, false, _&&_}
-use Prim.Native.Nat.{ℕ, suc, _+_, _-_, _≤_, _<_}
+use Prim.Native.Nat.{ℕ, suc, _+_, _-_, _≤_}
 use native.Mathlib.Omega.{arith}
-use lib.Dec.{T, eqb, eqb-refl}
-use lib.Ieee.Bits.{is-true}
+use lib.Dec.{eqb}
+use borrow.Author.Tests.{eq-eqb}
 use lib.ListN.{length, getD, drop, List·getD-append}
 use lib.Ieee.{Float}
 use Rattle.numbers.specs.declared.vec3.Vec3.{Vec3}
@@ -191,20 +191,17 @@ refusal-breaks S (refused r j) h e = h .1 (refusal-same r form e)
 
 -- ---- the claim
 
-equal : (m n : ℕ) → m ≡ n → eqb m n ≡ true
-equal m n e = is-true (eqb m n) (subst (λ (k : ℕ). T (eqb m k)) e (eqb-refl m))
-
 both-equal : (a b : Bool) → a ≡ true → b ≡ true → (a && b) ≡ true
 both-equal a b p q = ap (λ (x : Bool). x && b) p ∙ q
 
 module _ (S : List ℕ) (R : List Float) (kinds out : List ℕ) (k : length kinds ≡ 96) (r : length R ≡ 16) (o : length out ≡ 24576) (doubles : All Fits R)
     (checked : CheckAnswer) (kinds′ : List ℕ) (hc : CheckOwes S kinds checked kinds′) (ran : RunAnswer) (out′ : List ℕ) (hr : RunOwes S R out ran out′) where
   v : Verdict
-  v = verdict true S (hc .made)
+  v = verdict true S (hc .form-is)
 
   checked-is : checked ≡ checkOf v
   unfolding v
-  checked-is = hc .answer ∙ ap (λ (b : Bool). checkOf (verdict b S (hc .made))) (equal (length kinds) 96 k)
+  checked-is = hc .answer ∙ ap (λ (b : Bool). checkOf (verdict b S (hc .form-is))) (eq-eqb (length kinds) 96 k)
 
   number-is : checked .number ≡ checkOf v .number
   number-is = ap (λ (a : CheckAnswer). a .number) checked-is
@@ -214,21 +211,21 @@ module _ (S : List ℕ) (R : List Float) (kinds out : List ℕ) (k : length kind
 
   v-says : Says S v
   unfolding v
-  v-says = says S (hc .made) (hc .grammar)
+  v-says = says S (hc .form-is) (hc .grammar)
 
   v-admits : (c : Sheet) (codes : List ℕ) → Admits S c codes → v ≡ admitted c (255 ∷ codes)
   unfolding v
-  v-admits c codes h = admits S c codes h (hc .made) (hc .grammar)
+  v-admits c codes h = admits S c codes h (hc .form-is) (hc .grammar)
 
   v-breaks : (j : ℕ) → sized S ≡ true → FirstBad S j → v ≡ refused form j
   unfolding v
-  v-breaks j z w = verdict-is S (hc .made) (badLine j) z (hc .grammar) w
+  v-breaks j z w = verdict-is S (hc .form-is) (badLine j) z (hc .grammar) w
 
   -- of an admitted sheet
   module _ (c : Sheet) (codes : List ℕ) (h : Admits S c codes) where
     written-codes : kinds′ ≡ laid (255 ∷ codes) kinds
     unfolding v
-    written-codes = hc .left ∙ ap (λ (b : Bool). kindsOfVerdict (verdict b S (hc .made)) kinds) (equal (length kinds) 96 k) ∙ ap (λ (w : Verdict). kindsOfVerdict w kinds) (v-admits c codes h)
+    written-codes = hc .left ∙ ap (λ (b : Bool). kindsOfVerdict (verdict b S (hc .form-is)) kinds) (eq-eqb (length kinds) 96 k) ∙ ap (λ (w : Verdict). kindsOfVerdict w kinds) (v-admits c codes h)
 
     walked : walk c ≡ passes codes
     walked = walk-admits c codes (h .names-and-kinds)
@@ -237,10 +234,10 @@ module _ (S : List ℕ) (R : List Float) (kinds out : List ℕ) (k : length kind
     named = subst (λ (ks : List ℕ). All (Coded ks) (namesGiven (machine c R))) (sym written-codes)
         (listed (machine c R) (walk c) codes (drop (length (255 ∷ codes)) kinds) (agree c R) walked)
 
-    runs : Tells (machine c R) out ran out′
-    runs =
-        let lent : lentRun R out ≡ true = both-equal (eqb (length R) 16) (eqb (length out) 24576) (equal (length R) 16 r) (equal (length out) 24576 o) in
-        subst (λ (w : Verdict). RunOf w R out ran out′) (admits S c codes h (hr .made) (hr .grammar)) (subst (λ (b : Bool). RunOf (verdict b S (hr .made)) R out ran out′) lent (hr .answer))
+    told-so : Tells (machine c R) out ran out′
+    told-so =
+        let lent : lentRun R out ≡ true = both-equal (eqb (length R) 16) (eqb (length out) 24576) (eq-eqb (length R) 16 r) (eq-eqb (length out) 24576 o) in
+        subst (λ (w : Verdict). RunOf w R out ran out′) (admits S c codes h (hr .form-is) (hr .grammar)) (subst (λ (b : Bool). RunOf (verdict b S (hr .form-is)) R out ran out′) lent (hr .answer))
 
   pub claim : Claim S R kinds checked kinds′ out ran out′
   claim = record {
@@ -251,7 +248,7 @@ module _ (S : List ℕ) (R : List Float) (kinds out : List ℕ) (k : length kind
     codes-written = λ c codes h. written-codes c codes h;
     never-sticks = λ c codes h. unstuck (machine c R) (walk c) codes (agree c R) (walked c codes h);
     names-have-kinds = λ c codes h. named c codes h;
-    run-is-machine = λ c codes h. runs c codes h;
+    run-is-machine = λ c codes h. told-so c codes h;
     frames-hold = λ c codes h. holds (framesMade (machine c R)) (every-frame c R doubles);
     refused-form = λ j. (
       (λ e. let b = refusal-breaks S v v-says (sym number-is ∙ e .0) in (b .0, subst (FirstBad S) (sym line-is ∙ e .1) (b .1))),

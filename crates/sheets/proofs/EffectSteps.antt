@@ -56,7 +56,7 @@ next-none s at i f far = record {
   high = λ h. h;
   short = omega arith;
   is = λ m lo hi lf first. absurd (f .none m lo (before m hi lf far) lf);
-  none = λ h. refl;
+  no-lf = λ h. refl;
 }
   where
     before : (m : ℕ) → m < at + 200 → getD s m 0 ≡ 10 → (length s ≤ i) ⊎ (at + 200 ≤ i) → m < i
@@ -69,7 +69,7 @@ next-found s at i b lo short inside eb h f = record {
   high = λ k. omega arith;
   short = omega arith;
   is = λ m lo' hi lf first. go m lo' lf first (ltb m i) refl (ltb i m) refl;
-  none = λ g. absurd (g i lo short (sym eb ∙ h));
+  no-lf = λ g. absurd (g i lo short (sym eb ∙ h));
 }
   where
     go : (m : ℕ) → at ≤ m → getD s m 0 ≡ 10 → ((k : ℕ) → at ≤ k → k < m → getD s k 0 ≡ 10 → ⊥) → (c : Bool) → ltb m i ≡ c → (d : Bool) → ltb i m ≡ d → i + 1 ≡ m + 1

@@ -17,9 +17,10 @@ use Rattle.frames.specs.declared.positions.GeodeticPosition.{GeodeticPosition}
 use Rattle.frames.specs.declared.vector.LocalVector.{LocalVector}
 use Rattle.frames.specs.declared.frame.LocalFrame.{LocalFrame}
 use Rattle.sheets.proofs.value.Value as value
+use Rattle.sheets.proofs.ByCases.{by-cases}
 use Rattle.sheets.specs.declared.value.Value.{Value}
 use Rattle.sheets.specs.declared.value.Value.the-variants.{Number, Radians, Metres, Geocentric, Geodetic, Vector, Frame}
-use Rattle.sheets.specs.Letters.{Letter, 𝐧, 𝐚, 𝐥, 𝐠, 𝐝, 𝐯, 𝐟, cases, held, hold, both}
+use Rattle.sheets.specs.Letters.{Letter, 𝐧, 𝐚, 𝐥, 𝐠, 𝐝, 𝐯, 𝐟, held, hold, both}
 
 both-none : {X Y : Type 0} (o : Option X) → both {X = X} {Y = Y} o none ≡ none
 both-none none = refl
@@ -48,13 +49,13 @@ Wrong ks s v = OneOf ks (tagOf value.the-type v) → held s v ≡ none
 
 wrong-kind : (ks : List ℕ) (s : Letter) → T (not (hasKey ks (tag s))) → (v : Value) → Wrong ks s v
 unfolding held
-wrong-kind ks 𝐧 t = cases (Wrong ks 𝐧) (λ x h. absurd (miss ks 0 t h)) (λ x h. refl) (λ x h. refl) (λ x h. refl) (λ x h. refl) (λ x h. refl) (λ x h. refl)
-wrong-kind ks 𝐚 t = cases (Wrong ks 𝐚) (λ x h. refl) (λ x h. absurd (miss ks 1 t h)) (λ x h. refl) (λ x h. refl) (λ x h. refl) (λ x h. refl) (λ x h. refl)
-wrong-kind ks 𝐥 t = cases (Wrong ks 𝐥) (λ x h. refl) (λ x h. refl) (λ x h. absurd (miss ks 2 t h)) (λ x h. refl) (λ x h. refl) (λ x h. refl) (λ x h. refl)
-wrong-kind ks 𝐠 t = cases (Wrong ks 𝐠) (λ x h. refl) (λ x h. refl) (λ x h. refl) (λ x h. absurd (miss ks 3 t h)) (λ x h. refl) (λ x h. refl) (λ x h. refl)
-wrong-kind ks 𝐝 t = cases (Wrong ks 𝐝) (λ x h. refl) (λ x h. refl) (λ x h. refl) (λ x h. refl) (λ x h. absurd (miss ks 4 t h)) (λ x h. refl) (λ x h. refl)
-wrong-kind ks 𝐯 t = cases (Wrong ks 𝐯) (λ x h. refl) (λ x h. refl) (λ x h. refl) (λ x h. refl) (λ x h. refl) (λ x h. absurd (miss ks 5 t h)) (λ x h. refl)
-wrong-kind ks 𝐟 t = cases (Wrong ks 𝐟) (λ x h. refl) (λ x h. refl) (λ x h. refl) (λ x h. refl) (λ x h. refl) (λ x h. refl) (λ x h. absurd (miss ks 6 t h))
+wrong-kind ks 𝐧 t = by-cases (Wrong ks 𝐧) (λ x h. absurd (miss ks 0 t h)) (λ x h. refl) (λ x h. refl) (λ x h. refl) (λ x h. refl) (λ x h. refl) (λ x h. refl)
+wrong-kind ks 𝐚 t = by-cases (Wrong ks 𝐚) (λ x h. refl) (λ x h. absurd (miss ks 1 t h)) (λ x h. refl) (λ x h. refl) (λ x h. refl) (λ x h. refl) (λ x h. refl)
+wrong-kind ks 𝐥 t = by-cases (Wrong ks 𝐥) (λ x h. refl) (λ x h. refl) (λ x h. absurd (miss ks 2 t h)) (λ x h. refl) (λ x h. refl) (λ x h. refl) (λ x h. refl)
+wrong-kind ks 𝐠 t = by-cases (Wrong ks 𝐠) (λ x h. refl) (λ x h. refl) (λ x h. refl) (λ x h. absurd (miss ks 3 t h)) (λ x h. refl) (λ x h. refl) (λ x h. refl)
+wrong-kind ks 𝐝 t = by-cases (Wrong ks 𝐝) (λ x h. refl) (λ x h. refl) (λ x h. refl) (λ x h. refl) (λ x h. absurd (miss ks 4 t h)) (λ x h. refl) (λ x h. refl)
+wrong-kind ks 𝐯 t = by-cases (Wrong ks 𝐯) (λ x h. refl) (λ x h. refl) (λ x h. refl) (λ x h. refl) (λ x h. refl) (λ x h. absurd (miss ks 5 t h)) (λ x h. refl)
+wrong-kind ks 𝐟 t = by-cases (Wrong ks 𝐟) (λ x h. refl) (λ x h. refl) (λ x h. refl) (λ x h. refl) (λ x h. refl) (λ x h. refl) (λ x h. absurd (miss ks 6 t h))
 
 pub not-𝐧 : (v : Value) → OneOf (1 ∷ 2 ∷ 3 ∷ 4 ∷ 5 ∷ 6 ∷ []) (tagOf value.the-type v) → held 𝐧 v ≡ none
 not-𝐧 v = wrong-kind (1 ∷ 2 ∷ 3 ∷ 4 ∷ 5 ∷ 6 ∷ []) 𝐧 tt v

@@ -82,12 +82,6 @@ key-same js ks e =
     let h : onto js [] ≡ onto ks [] = back-same (onto js []) (onto ks []) (sym (key-back js []) ∙ e ∙ key-back ks []) in
     sym (append-nil js) ∙ sym (onto-onto js [] []) ∙ ap (λ z. onto z []) h ∙ onto-onto ks [] [] ∙ append-nil ks
 
--- one more kind
-pub key-push : (ks : List Kind) (n : ℕ) (k : Kind) → keyFrom n (ks ++ (k ∷ [])) ≡ keyFrom n ks * 16 + suc (kindCode k)
-unfolding keyFrom
-key-push [] n k = refl
-key-push (j ∷ ks) n k = key-push ks (n * 16 + suc (kindCode j)) k
-
 -- ---- the two tests
 
 same-test : (a b : Bool) → (T a → T b) → (T b → T a) → a ≡ b

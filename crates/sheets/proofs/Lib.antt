@@ -27,6 +27,7 @@ pub mod ConfinedHolds
 pub mod Starred
 pub mod Pinned
 pub mod AppliedLaws
+pub mod ByCases
 pub mod HeldLaws
 pub mod FamilyLaws
 pub mod WordLaws

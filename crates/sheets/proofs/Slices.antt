@@ -54,13 +54,6 @@ module _ (s : List ℕ) (at : ℕ) (w : Word) (n : ℕ) (e : readWord s at ≡ g
       let h = word-inside s w at n word-is (stood .0) in
       (part-is s w at n (stood .0) h, spans-end s w at n (stood .0), h)
 
--- the word of a code is the one that was read: one code, one word
-pub word-of : (s : List ℕ) (at : ℕ) (r : WordRead) → r ≡ coded (readWord s at) → (k n : ℕ) → r ≡ WordRead.Is k n → (v : Word) → IsWord v → k ≡ codeOf v → readWord s at ≡ got v n
-word-of s at r er k n h v iv ek =
-    let (w, ew, ew') = coded-got (readWord s at) r er k n h in
-    let i : w ≡ v = code-same w v (word-is s at w n ew) iv (sym ew' ∙ ek) in
-    ew ∙ ap (λ x. got x n) i
-
 -- ---- lines
 
 module _ (s : List ℕ) (at : ℕ) (l : Line) (n : ℕ) (e : readLine s at ≡ got l n) where

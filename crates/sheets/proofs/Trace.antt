@@ -7,11 +7,12 @@ use lib.Ieee.{Float}
 use Rattle.numbers.specs.Ops.{num}
 use Rattle.frames.specs.declared.ellipsoid.Ellipsoid.{Ellipsoid}
 use Rattle.frames.specs.declared.frame.LocalFrame.{LocalFrame}
+use Rattle.sheets.proofs.ByCases.{by-cases}
 use Rattle.sheets.specs.declared.value.Value.{Value}
 use Rattle.sheets.specs.declared.value.Value.the-variants.{Number, Radians, Metres, Geocentric, Geodetic, Vector, Frame}
 use Rattle.sheets.specs.Text.{Word}
 use Rattle.sheets.specs.Trees.{Num, Expr, Exprs, word-expr, num-expr, form-expr, nil, _▸_, Line, let-line, show-line, Sheet, numbered}
-use Rattle.sheets.specs.Letters.{Letter, 𝐧, 𝐚, 𝐥, 𝐠, 𝐝, 𝐯, 𝐟, ⟦_⟧, Holds, cases, held, hold, both, orientations}
+use Rattle.sheets.specs.Letters.{Letter, 𝐧, 𝐚, 𝐥, 𝐠, 𝐝, 𝐯, 𝐟, ⟦_⟧, Holds, held, hold, both, orientations}
 use Rattle.sheets.specs.Table.{Row, on, when, table}
 use Rattle.sheets.specs.Lookup.{sameWord, shared, Hit, hit, find}
 use Rattle.sheets.specs.Names.{Given, Known, orElse, lookup, barred, readingWords, givenOn}
@@ -53,13 +54,13 @@ module _ (Good : Value → Type 0) (Fine : LocalFrame → Type 0) (nums : (q : N
 
   good-held : (s : Letter) (x : Value) → GoodAs s x
   unfolding held
-  good-held 𝐧 = cases (GoodAs 𝐧) (λ x h. h) (λ x h. tt) (λ x h. tt) (λ x h. tt) (λ x h. tt) (λ x h. tt) (λ x h. tt)
-  good-held 𝐚 = cases (GoodAs 𝐚) (λ x h. tt) (λ x h. h) (λ x h. tt) (λ x h. tt) (λ x h. tt) (λ x h. tt) (λ x h. tt)
-  good-held 𝐥 = cases (GoodAs 𝐥) (λ x h. tt) (λ x h. tt) (λ x h. h) (λ x h. tt) (λ x h. tt) (λ x h. tt) (λ x h. tt)
-  good-held 𝐠 = cases (GoodAs 𝐠) (λ x h. tt) (λ x h. tt) (λ x h. tt) (λ x h. h) (λ x h. tt) (λ x h. tt) (λ x h. tt)
-  good-held 𝐝 = cases (GoodAs 𝐝) (λ x h. tt) (λ x h. tt) (λ x h. tt) (λ x h. tt) (λ x h. h) (λ x h. tt) (λ x h. tt)
-  good-held 𝐯 = cases (GoodAs 𝐯) (λ x h. tt) (λ x h. tt) (λ x h. tt) (λ x h. tt) (λ x h. tt) (λ x h. h) (λ x h. tt)
-  good-held 𝐟 = cases (GoodAs 𝐟) (λ x h. tt) (λ x h. tt) (λ x h. tt) (λ x h. tt) (λ x h. tt) (λ x h. tt) (λ x h. h)
+  good-held 𝐧 = by-cases (GoodAs 𝐧) (λ x h. h) (λ x h. tt) (λ x h. tt) (λ x h. tt) (λ x h. tt) (λ x h. tt) (λ x h. tt)
+  good-held 𝐚 = by-cases (GoodAs 𝐚) (λ x h. tt) (λ x h. h) (λ x h. tt) (λ x h. tt) (λ x h. tt) (λ x h. tt) (λ x h. tt)
+  good-held 𝐥 = by-cases (GoodAs 𝐥) (λ x h. tt) (λ x h. tt) (λ x h. h) (λ x h. tt) (λ x h. tt) (λ x h. tt) (λ x h. tt)
+  good-held 𝐠 = by-cases (GoodAs 𝐠) (λ x h. tt) (λ x h. tt) (λ x h. tt) (λ x h. h) (λ x h. tt) (λ x h. tt) (λ x h. tt)
+  good-held 𝐝 = by-cases (GoodAs 𝐝) (λ x h. tt) (λ x h. tt) (λ x h. tt) (λ x h. tt) (λ x h. h) (λ x h. tt) (λ x h. tt)
+  good-held 𝐯 = by-cases (GoodAs 𝐯) (λ x h. tt) (λ x h. tt) (λ x h. tt) (λ x h. tt) (λ x h. tt) (λ x h. h) (λ x h. tt)
+  good-held 𝐟 = by-cases (GoodAs 𝐟) (λ x h. tt) (λ x h. tt) (λ x h. tt) (λ x h. tt) (λ x h. tt) (λ x h. tt) (λ x h. h)
 
   abbrev GoodHeld : (ss : List Letter) → Option (Holds ss) → Type 0
   GoodHeld ss none = Unit {0}

@@ -76,10 +76,10 @@ lentKinds kinds = eqb (length kinds) 96
 
 -- What the check owes: of the bytes s, lent `kinds`, it answers r and leaves kinds′.
 pub record CheckOwes (s kinds : List ℕ) (r : CheckAnswer) (kinds′ : List ℕ) : Type 0 where
-  pub made : Form Sheet
-  pub grammar : Reads s made
-  pub answer : r ≡ checkOf (verdict (lentKinds kinds) s made)
-  pub left : kinds′ ≡ kindsOfVerdict (verdict (lentKinds kinds) s made) kinds
+  pub form-is : Form Sheet
+  pub grammar : Reads s form-is
+  pub answer : r ≡ checkOf (verdict (lentKinds kinds) s form-is)
+  pub left : kinds′ ≡ kindsOfVerdict (verdict (lentKinds kinds) s form-is) kinds
 
 -- ---- the run, lent readings and an output
 
@@ -102,6 +102,6 @@ lentRun rs out = eqb (length rs) 16 && eqb (length out) 24576
 
 -- What the run owes: of the bytes s over the readings rs, lent `out`, it answers r and leaves out′.
 pub record RunOwes (s : List ℕ) (rs : List Float) (out : List ℕ) (r : RunAnswer) (out′ : List ℕ) : Type 0 where
-  pub made : Form Sheet
-  pub grammar : Reads s made
-  pub answer : RunOf (verdict (lentRun rs out) s made) rs out r out′
+  pub form-is : Form Sheet
+  pub grammar : Reads s form-is
+  pub answer : RunOf (verdict (lentRun rs out) s form-is) rs out r out′

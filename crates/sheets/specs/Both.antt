@@ -5,7 +5,7 @@ use mathlib.Core.List.{List}
 use lib.ListN.{length}
 use lib.Ieee.{Float}
 use Rattle.sheets.specs.Answers.{CheckOwes, RunOwes}
-use Rattle.sheets.specs.Confined.{Confined}
+use Rattle.sheets.specs.Confined.{OutputConfined, ListConfined}
 use Rattle.sheets.specs.Claim.{Claim}
 use Rattle.sheets.specs.declared.check_and_run.BothAnswers.{BothAnswers}
 
@@ -13,5 +13,6 @@ use Rattle.sheets.specs.declared.check_and_run.BothAnswers.{BothAnswers}
 pub record Both (S : List ℕ) (R : List Float) (kinds out : List ℕ) (r : BothAnswers) (kinds′ out′ : List ℕ) : Type 0 where
   pub checked : CheckOwes S kinds (r .checked) kinds′
   pub ran : RunOwes S R out (r .ran) out′
-  pub confined : Confined S kinds (r .checked) kinds′ out (r .ran) out′
+  pub list-confined : ListConfined S kinds (r .checked) kinds′
+  pub output-confined : OutputConfined out (r .ran) out′
   pub claimed : length kinds ≡ 96 → length R ≡ 16 → length out ≡ 24576 → Claim S R kinds (r .checked) kinds′ out (r .ran) out′

@@ -1,4 +1,4 @@
--- Demand 1: what is lent changes only where it is said. (Sheet and readings are lent to be read alone.)
+-- Demand 1: what is lent changes only where it is said, whatever its length. (Sheet and readings are lent to be read alone.)
 use Prim.Native.Nat.{ℕ, _+_, _≤_}
 use mathlib.Core.Path.{_≡_}
 use mathlib.Core.List.{List}
@@ -7,15 +7,18 @@ use Rattle.sheets.specs.Trees.{Sheet}
 use Rattle.sheets.specs.Grammar.{Written}
 use Rattle.sheets.specs.Answers.{laid, CheckAnswer, RunAnswer}
 
--- Of the bytes S and lent buffers of any length. The check, lent `kinds`, answers `checked` and leaves `kinds′`; the run, lent `out`, answers `ran` and leaves `out′`.
-pub record Confined (S kinds : List ℕ) (checked : CheckAnswer) (kinds′ : List ℕ) (out : List ℕ) (ran : RunAnswer) (out′ : List ℕ) : Type 0 where
+-- The run, lent `out`, answers r and leaves out′.
+pub record OutputConfined (out : List ℕ) (r : RunAnswer) (out′ : List ℕ) : Type 0 where
   -- the output keeps its length, and differs from what was lent only in its first n bytes, n being the count answered
   pub output-length : length out′ ≡ length out
-  pub output-rest : drop (ran .written) out′ ≡ drop (ran .written) out
-  pub count-within : ran .written ≤ length out
+  pub output-rest : drop (r .written) out′ ≡ drop (r .written) out
+  pub count-within : r .written ≤ length out
   -- every refusal's count is 0 but for 7 and 8
-  pub refused-count : ¬ (ran .number ≡ 0) → ¬ (ran .number ≡ 7) → ¬ (ran .number ≡ 8) → ran .written ≡ 0
+  pub refused-count : ¬ (r .number ≡ 0) → ¬ (r .number ≡ 7) → ¬ (r .number ≡ 8) → r .written ≡ 0
+
+-- The check of the bytes s, lent `kinds`, answers r and leaves kinds′.
+pub record ListConfined (s kinds : List ℕ) (r : CheckAnswer) (kinds′ : List ℕ) : Type 0 where
   -- the kind list keeps its length; where the check passes it is filled to the sheet's last line, a code for each line, and else untouched
   pub list-length : length kinds′ ≡ length kinds
-  pub list-filled : checked .number ≡ 0 → (c : Sheet) × (codes : List ℕ) × Written S c × (length codes ≡ length (c .lines) + 1) × (kinds′ ≡ laid codes kinds)
-  pub list-untouched : ¬ (checked .number ≡ 0) → kinds′ ≡ kinds
+  pub list-filled : r .number ≡ 0 → (c : Sheet) × (codes : List ℕ) × Written s c × (length codes ≡ length (c .lines) + 1) × (kinds′ ≡ laid codes kinds)
+  pub list-untouched : ¬ (r .number ≡ 0) → kinds′ ≡ kinds

@@ -15,7 +15,7 @@ pub enum FormRead {
 }
 
 // The place after line 1.
-pub fn head_end(s: &[u8]) -> Read
+fn head_end(s: &[u8]) -> Read
     ensures { λ r. ⌜ r ≡ place (readHead (now (s .entry))) ⌝ }
 {
     let h = head(s);
@@ -27,7 +27,7 @@ pub fn head_end(s: &[u8]) -> Read
 }
 
 // The place after another line.
-pub fn line_end(s: &[u8], at: usize) -> Read
+fn line_end(s: &[u8], at: usize) -> Read
     ensures { λ r. ⌜ r ≡ place (readLine (now (s .entry)) at) ⌝ }
 {
     let l = line(s, at);
@@ -37,7 +37,7 @@ pub fn line_end(s: &[u8], at: usize) -> Read
     }
 }
 
-// The form pass over the lines from line 2, which stands at `start`. `number` is the number of the line at `at`: one more than the LFs before it, and each line ends in the next LF.
+// The form pass over the lines from line 2, which stands at `start`. `number` is the number of the line at `at`: it is stepped at each LF, and where line 1 ends at `start` it is one more than the LFs before `at`.
 pub fn form_lines(s: &[u8], start: usize) -> FormRead
     ensures { λ r. ⌜ r ≡ linesForm 2 (readLines 95 2 0 (now (s .entry)) start) ⌝ }
 {

@@ -60,7 +60,7 @@ pub record NextLine (s : List ℕ) (at r : ℕ) : Type 0 where
   pub high : at ≤ length s → r ≤ length s
   pub short : r ≤ at + 200
   pub is : (m : ℕ) → at ≤ m → m < at + 200 → getD s m 0 ≡ 10 → ((k : ℕ) → at ≤ k → k < m → getD s k 0 ≡ 10 → ⊥) → r ≡ m + 1
-  pub none : ((k : ℕ) → at ≤ k → k < at + 200 → getD s k 0 ≡ 10 → ⊥) → r ≡ at
+  pub no-lf : ((k : ℕ) → at ≤ k → k < at + 200 → getD s k 0 ≡ 10 → ⊥) → r ≡ at
 
 unfoldable pub letEffect : ℕ → Out Value → Effect
 letEffect c (goes fs v) = Effect.Gives c v
