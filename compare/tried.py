@@ -9,58 +9,17 @@ among its readings. `compare/tried-run` makes both files anew and compares them 
 the gate runs the program and compares what it prints.
 """
 
-import struct
 import sys
 from pathlib import Path
 
+from tried_cases import WGS84, bits, joined, passes, refused, shown, stops
+from tried_lending import lending
 from tried_table import NO_ROWS, TABLE
 
-KINDS = "n a l g d venu vned vbody vwan fenu fned fbody fwan".split()
 POLE = "(ellipsoid 6400000 128)"
-WGS84 = "(ellipsoid wgs84)"
 NAN = 0x7FF8000000000000
 PI_HALF = 1.5707963267948966
 WHOLE_TURN = 4 * PI_HALF
-
-
-def bits(x):
-    return struct.unpack(">Q", struct.pack(">d", x))[0]
-
-
-def shown(name, kind, *values):
-    """An output line."""
-    return name + " " + kind + "".join(" %016x" % bits(x) for x in values) + "\n"
-
-
-def joined(lines):
-    return "".join(line + "\n" for line in lines).encode()
-
-
-def case(sheet, readings, codes, checked, ran, text, lengths=None):
-    """A line of the input and the lines that answer it. Readings are bits by their index, the others 0. Lengths are those of
-    the kind list, the readings and the output that are lent, 01's where there are none."""
-    words = " ".join("%016x" % readings.get(i, 0) for i in range(16))
-    lent = ",%04x %04x %04x" % lengths if lengths else ""
-    given = "%04x %s%s %s\n" % (len(sheet), words, lent, sheet.hex())
-    said = "check %d %d%s\n" % (*checked, "".join(" %d" % c for c in codes))
-    return given, said + "run %d %d %d\n%s" % (*ran, len(text), text)
-
-
-def stops(lines, kinds, number, line, text="", readings={}):
-    """A sheet that is admitted, with the kinds of line 2 on; the run is refused."""
-    codes = [255] + [KINDS.index(kind) for kind in kinds.split()]
-    assert len(codes) == len(lines)
-    return case(joined(lines), readings, codes, (0, 0), (number, line), text)
-
-
-def passes(lines, kinds, text="", readings={}):
-    return stops(lines, kinds, 0, 0, text, readings)
-
-
-def refused(lines, number, line, readings={}):
-    """A sheet that the check refuses, and so the run. Lines, or the whole sheet's bytes."""
-    sheet = lines if isinstance(lines, bytes) else joined(lines)
-    return case(sheet, readings, [], (number, line), (number, line), "")
 
 
 # ---- "Sheets to try", in document 01's order
@@ -138,46 +97,6 @@ def sizes():
     yield passes(lines, "venu " * 95)
     yield refused(joined(lines) + b"\n", 1, 0)
     yield refused(b"\0" * 16385, 1, 0)
-
-
-# The lengths of 01's refusal 2, each between those one less and one more, nothing at all and far more.
-KIND_LISTS = 0, 95, 96, 97, 200
-READINGS = 0, 15, 16, 17, 96
-OUTPUTS = 0, 24575, 24576, 24577, 30000
-# All of the readings with all of the output, and each with all of the kind list.
-LENGTHS = [(KIND_LISTS[(i + k) % 5], READINGS[i], OUTPUTS[k]) for i in range(5) for k in range(5)]
-
-
-def lent(lines, lengths, kinds="", checked=(0, 0), ran=(0, 0), text=""):
-    """A sheet with these lengths lent, and what is answered where they are 01's. A check's kind list that is not 96 bytes is
-    refused 2, and a run's readings that are not 16 or output that is not 24,576 bytes; 1 comes before, the others behind.
-    Nothing is written with 2."""
-    sheet = joined(lines)
-    codes = [255] + [KINDS.index(kind) for kind in kinds.split()] if checked == (0, 0) else []
-    if 1 <= len(sheet) <= 16384:
-        if lengths[0] != 96:
-            codes, checked = [], (2, 0)
-        if lengths[1] != 16 or lengths[2] != 24576:
-            ran, text = (2, 0), ""
-    return case(sheet, {}, codes, checked, ran, text, lengths)
-
-
-def lending():
-    """Refusal 2: lengths of every sort, with a sheet that passes and with one that each other refusal meets."""
-    one = shown("a", "n", 1.0)
-    begin = [WGS84, "(let a 1)", "(show a)"]
-    for lengths in LENGTHS:
-        yield lent(begin + ["(show r15)"], lengths, "n n n", text=one + shown("r15", "n", 0.0))
-        yield lent([], lengths, checked=(1, 0), ran=(1, 0))
-        yield lent(begin + ["(show  a)"], lengths, checked=(3, 4), ran=(3, 4))
-    # each of the lengths once
-    for lengths in LENGTHS[::6]:
-        yield lent(["(ellipsoid 1 1)"], lengths, checked=(4, 1), ran=(4, 1))
-        yield lent(begin + ["(show b)"], lengths, checked=(5, 4), ran=(5, 4))
-        yield lent(begin + ["(let b (tip a))"], lengths, checked=(6, 4), ran=(6, 4))
-        yield lent(begin + ["(let b 100000001)"], lengths, "n n n", ran=(7, 4), text=one)
-        yield lent(begin + ["(let f (enu (geo (m 0) (m 0) (m 0))))"], lengths, "n n fenu", ran=(8, 4), text=one)
-    yield lent([" " * 16384], LENGTHS[0], checked=(1, 0), ran=(1, 0))
 
 
 def grammar():
