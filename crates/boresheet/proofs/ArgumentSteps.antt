@@ -9,15 +9,12 @@ use lib.Dec.{eqb}
 use lib.ListN.{length, getD, drop}
 use lib.Seq.{drop-cons, drop-length}
 use borrow.Author.Tests.{eq-eqb, ne-eqb}
+use Rattle.numbers.proofs.ArcLaws.{and-false}
 use Rattle.sheets.specs.Text.{Word, ascii}
 use Rattle.sheets.specs.Lookup.{sameWord}
 use Rattle.boresheet.specs.Arguments.{asksHelp}
 
 -- ---- two words, byte by byte
-
-and-false : (t : Bool) → (t && false) ≡ false
-and-false true = refl
-and-false false = refl
 
 pub same-lengths : (a b : List ℕ) → (length a ≡ length b → ⊥) → false ≡ sameWord a b
 same-lengths [] [] h = absurd (h refl)

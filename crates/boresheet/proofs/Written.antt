@@ -5,7 +5,8 @@ use mathlib.Core.List.{List}
 use lib.Ieee.{Float}
 use Rattle.io.specs.Counts.{Counts}
 use Rattle.io.proofs.Counting.{counts}
-use Rattle.sheets.specs.Answers.{RunAnswer, RunOwes}
+use Rattle.sheets.specs.declared.answers.RunAnswer.{RunAnswer}
+use Rattle.sheets.specs.Answers.{RunOwes}
 use Rattle.sheets.proofs.ConfinedHolds.{output-confined}
 
 pub run-counts : (s : List ℕ) (rs : List Float) (out e : List ℕ) (r : RunAnswer) → RunOwes s rs out r e → Counts (r .written) e

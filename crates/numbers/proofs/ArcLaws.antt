@@ -25,7 +25,7 @@ one-false true true h = absurd (h refl refl)
 one-false true false h = refl
 one-false false q h = refl
 
-and-false : (p : Bool) → (p && false) ≡ false
+pub and-false : (p : Bool) → (p && false) ≡ false
 and-false true = refl
 and-false false = refl
 
