@@ -24,6 +24,7 @@ pub mod LinesExact
 pub mod TextBound
 pub mod ClaimHolds
 pub mod ConfinedHolds
+pub mod OwedOnce
 pub mod Starred
 pub mod Pinned
 pub mod AppliedLaws

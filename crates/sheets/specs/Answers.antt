@@ -74,7 +74,7 @@ kindsOfVerdict (refused r j) kinds = kinds
 abbrev pub lentKinds : List ℕ → Bool
 lentKinds kinds = eqb (length kinds) 96
 
--- What the check owes: of the bytes s, lent `kinds`, it answers r and leaves kinds′.
+-- What the check owes: of the bytes s, lent `kinds`, it answers r and leaves kinds′, by what the grammar makes of s, one thing and only one.
 pub record CheckOwes (s kinds : List ℕ) (r : CheckAnswer) (kinds′ : List ℕ) : Type 0 where
   pub form-is : Form Sheet
   pub grammar : Reads s form-is
@@ -100,7 +100,7 @@ RunOf (refused k j) rs out r out′ = (r ≡ record { number = refusalNumber k; 
 abbrev pub lentRun : List Float → List ℕ → Bool
 lentRun rs out = eqb (length rs) 16 && eqb (length out) 24576
 
--- What the run owes: of the bytes s over the readings rs, lent `out`, it answers r and leaves out′.
+-- What the run owes: of the bytes s over the readings rs, lent `out`, it answers r and leaves out′, by what the grammar makes of s.
 pub record RunOwes (s : List ℕ) (rs : List Float) (out : List ℕ) (r : RunAnswer) (out′ : List ℕ) : Type 0 where
   pub form-is : Form Sheet
   pub grammar : Reads s form-is
