@@ -4,7 +4,7 @@ use mathlib.Core.Path.{_≡_, refl, sym, ap, _∙_, subst}
 use lib.Ieee as Ieee
 use Rattle.numbers.specs.Ops.{decimal, num}
 use Rattle.numbers.specs.Vec.{raw, zeroVec, unitX, unitY, negUnitZ, vecAdd, vecMul}
-use Rattle.numbers.specs.Mat.{mat, exchanged, transpose, vecMulMat, matMul}
+use Rattle.numbers.specs.Mat.{mat, exchanged, vecMulMat, matMul}
 use Rattle.numbers.specs.declared.angle.Angle.{Angle}
 use Rattle.numbers.specs.declared.vec3.Vec3.{Vec3}
 use Rattle.numbers.specs.declared.mat33.Mat33.{Mat33}

@@ -41,7 +41,7 @@ pub record Reached (s : List ℕ) (start at number : ℕ) : Type 0 where
 pub number-next : (s : List ℕ) (at : ℕ) (r : Read) → r ≡ place (readLine s at) → (n : ℕ) → r ≡ Read.At n → (i j : ℕ) → i + j ≡ countLF (take at s) + 2 → i + 1 + j ≡ countLF (take n s) + 2
 number-next s at r er n h i j e = let (x, ex) = placed-got (readLine s at) r er n h in omega (arith, line-step s x at n ex)
 
--- after line 1 a line's number is one more than the LFs before it
+-- For a reader: behind a line 1 the number of a line is one more than the LFs before it.
 pub reached-number : (s : List ℕ) (x : Head) (start at number : ℕ) → readHead s ≡ got x start → Reached s start at number → number ≡ countLF (take at s) + 1
 reached-number s x start at number e h = omega (arith, head-step s x start e, h .counts)
 

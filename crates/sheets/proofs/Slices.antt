@@ -8,17 +8,12 @@ use lib.ListN.{length, take, drop}
 use lib.Seq.{take-append-seam}
 use Rattle.sheets.specs.Trees.{Word, Line}
 use Rattle.sheets.specs.Grammar.{Letter, Digit, Each, IsWord, printLine}
-use Rattle.sheets.specs.code.Codes.{codeOf}
 use Rattle.sheets.specs.code.Reader.{got, readWord, readLine}
-use Rattle.sheets.specs.code.Views.{coded}
 pub use Rattle.sheets.specs.code.Writing.{part}
-use Rattle.sheets.specs.declared.bytes.WordRead.{WordRead}
 use Rattle.sheets.proofs.Spans.{Spans, spans-end, spans-drop, drop-spans, holds-at}
 use Rattle.sheets.proofs.ReaderLaws.{byte-inside}
 use Rattle.sheets.proofs.TokenLaws.{WordAt, word-sound}
-use Rattle.sheets.proofs.CodeLaws.{code-same}
 use Rattle.sheets.proofs.LineLaws.{LineStands, line-sound, line-complete}
-use Rattle.sheets.proofs.Viewed.{coded-got}
 
 part-is : (s x : List ℕ) (at n : ℕ) → Spans s x at n → n ≤ length s → part s at n ≡ x
 part-is s x at n p h =
