@@ -3,7 +3,7 @@
 pub mod frames_answers;
 pub mod frames_direct;
 pub mod frames_ellipsoids;
-pub mod frames_inputs;
+mod frames_inputs;
 pub mod frames_local_frames;
 pub mod frames_positions;
 pub mod frames_radii;
@@ -18,7 +18,7 @@ pub mod numbers_parts;
 pub mod numbers_quotients;
 pub mod numbers_table;
 pub mod numbers_vectors;
-pub mod words;
+mod words;
 
 ghost use mathlib.Core.Path.{_≡_};
 ghost use Rattle.test_operations.specs.Words.{padded};
