@@ -27,3 +27,4 @@ mod rows;
 pub mod run;
 mod text;
 mod value;
+mod words;
