@@ -24,7 +24,7 @@ use Rattle.sheets.specs.Lookup.{Hit, hit, find}
 use Rattle.sheets.specs.Refusals.{centre}
 use Rattle.sheets.specs.Machine.{Out, stops, sticks, result, provided, applyRow}
 use Rattle.sheets.specs.code.Applied.{unlessNear, applied, findBy, Applies}
-use Rattle.sheets.specs.code.KindCodes.{Missed}
+use Rattle.sheets.specs.code.KindCodes.{Missed, codesFor}
 use Rattle.sheets.proofs.HeldLaws.{wrong-length}
 use Rattle.sheets.proofs.WordLaws.{spelt, spelt-is, missed-none}
 use Rattle.sheets.proofs.KindRowLaws.{words-agree, rowsSpelt, rows-spelt}
@@ -83,9 +83,13 @@ none-by (r ∷ rs) ks vs t c m =
     go true h i = taken (hasKey ks (codeOf (r .word))) refl i (eqb-true (codeOf (r .word)) c h)
     go false h i = refl
 
+-- the codes of the operators that take n arguments
+abbrev codesTaking : ℕ → List ℕ
+codesTaking n = codesFor (λ r. eqb n (length (r .takes))) table []
+
 -- the last arm
-pub no-row : (ks : List ℕ) (e : Ellipsoid) (vs : List Value) → T (allApart (length vs) table ks) → (c : ℕ) → Missed ks c → Applies e c vs NoRow
-no-row ks e vs t c m = record { is = sym (ap (applied e) (none-by table ks vs t c m)) }
+pub no-row : (e : Ellipsoid) (vs : List Value) → T (allApart (length vs) table (codesTaking (length vs))) → (c : ℕ) → Missed (codesTaking (length vs)) c → Applies e c vs NoRow
+no-row e vs t c m = record { is = sym (ap (applied e) (none-by table (codesTaking (length vs)) vs t c m)) }
 
 -- ---- the first of five arguments, one by one
 
@@ -103,8 +107,8 @@ first-are (p ∷ q ∷ j ∷ s ∷ t ∷ u ∷ a) h d = absurd (omega arith)
 -- no row takes no argument, and more than five are all of them
 module _ (e : Ellipsoid) (code : ℕ) (a : List Value) (n : ℕ) where
   pub applies-none : n ≡ 0 → Applies e code (take n a) NoRow
-  unfolding table
-  applies-none h = rw h (no-row [] e [] tt code tt)
+  unfolding codesFor table
+  applies-none h = rw h (no-row e [] tt code tt)
 
   pub applies-first : (k : ℕ) → n ≡ k → (r : Applied) → Applies e code (take k a) r → Applies e code (take n a) r
   applies-first k h r t = subst (λ j. Applies e code (take j a) r) (sym h) t

@@ -1,7 +1,7 @@
 -- The readings' words are words; their codes. Assumes nothing.
 use Prim.Native.Nat.{ℕ}
 use mathlib.Core.Path.{refl}
-use mathlib.Core.List.{List, [], _∷_}
+use mathlib.Core.List.{List, [], _∷_, map}
 use Rattle.sheets.specs.Text.{Word, ascii}
 use Rattle.sheets.specs.Grammar.{IsWord}
 use Rattle.sheets.specs.code.Codes.{codeOf}
@@ -10,8 +10,7 @@ use Rattle.sheets.specs.Names.{readingWords}
 use Rattle.sheets.proofs.CodeLaws.{word-by}
 
 abbrev pub codesOf : List Word → List ℕ
-codesOf [] = []
-codesOf (v ∷ vs) = codeOf v ∷ codesOf vs
+codesOf vs = map codeOf vs
 
 abbrev pub AreWords : List Word → Type 0
 AreWords [] = Unit {0}

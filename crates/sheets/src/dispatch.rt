@@ -3,6 +3,7 @@ use crate::args::Applied;
 use crate::frame_rows;
 use crate::rows;
 use crate::value::Value;
+use crate::words;
 use frames::ellipsoid::Ellipsoid;
 use frames::orientation::Orientation;
 ghost use mathlib.Core.List.{[], _∷_};
@@ -13,21 +14,21 @@ pub fn apply_one(e: Ellipsoid, code: u64, p: Value) -> Applied
     ensures { λ r. ⌜ Applies e code (p ∷ []) r ⌝ }
 {
     match code {
-        5668 => rows::apply_deg(e, p),
-        13 => rows::apply_m(e, p),
-        38252798 => frame_rows::apply_togeo(e, p),
-        38259888 => frame_rows::apply_tolla(e, p),
-        7384 => frame_rows::apply_enu(e, p),
-        19355 => frame_rows::apply_ned(e, p),
-        19358 => rows::apply_neg(e, p),
-        993947 => rows::apply_swap(e, p),
-        5480971364 => rows::apply_bearing(e, p),
-        269900 => rows::apply_elev(e, p),
-        33804981 => rows::apply_range(e, p),
-        1074360060 => rows::apply_origin(e, p),
-        692 => rows::apply_rz(e, p),
-        691 => rows::apply_ry(e, p),
-        690 => rows::apply_rx(e, p),
+        words::DEG => rows::apply_deg(e, p),
+        words::M => rows::apply_m(e, p),
+        words::TOGEO => frame_rows::apply_togeo(e, p),
+        words::TOLLA => frame_rows::apply_tolla(e, p),
+        words::ENU => frame_rows::apply_enu(e, p),
+        words::NED => frame_rows::apply_ned(e, p),
+        words::NEG => rows::apply_neg(e, p),
+        words::SWAP => rows::apply_swap(e, p),
+        words::BEARING => rows::apply_bearing(e, p),
+        words::ELEV => rows::apply_elev(e, p),
+        words::RANGE => rows::apply_range(e, p),
+        words::ORIGIN => rows::apply_origin(e, p),
+        words::RZ => rows::apply_rz(e, p),
+        words::RY => rows::apply_ry(e, p),
+        words::RX => rows::apply_rx(e, p),
         _ => Applied::NoRow,
     }
 }
@@ -36,13 +37,13 @@ pub fn apply_two(e: Ellipsoid, code: u64, p: Value, q: Value) -> Applied
     ensures { λ r. ⌜ Applies e code (p ∷ q ∷ []) r ⌝ }
 {
     match code {
-        31538 => frame_rows::apply_wan(e, p, q),
-        1042489 => frame_rows::apply_turn(e, p, q),
-        755 => rows::apply_to(e, p, q),
-        57 => rows::apply_at(e, p, q),
-        1521 => rows::apply_add(e, p, q),
-        26790 => rows::apply_sub(e, p, q),
-        35762836 => rows::apply_scale(e, p, q),
+        words::WAN => frame_rows::apply_wan(e, p, q),
+        words::TURN => frame_rows::apply_turn(e, p, q),
+        words::TO => rows::apply_to(e, p, q),
+        words::AT => rows::apply_at(e, p, q),
+        words::ADD => rows::apply_add(e, p, q),
+        words::SUB => rows::apply_sub(e, p, q),
+        words::SCALE => rows::apply_scale(e, p, q),
         _ => Applied::NoRow,
     }
 }
@@ -51,17 +52,17 @@ pub fn apply_three(e: Ellipsoid, code: u64, p: Value, q: Value, j: Value) -> App
     ensures { λ r. ⌜ Applies e code (p ∷ q ∷ j ∷ []) r ⌝ }
 {
     match code {
-        9783 => rows::apply_geo(e, p, q, j),
-        16873 => rows::apply_lla(e, p, q, j),
-        1121750 => rows::apply_vector(e, Orientation::Enu, p, q, j),
-        1133721 => rows::apply_vector(e, Orientation::Ned, p, q, j),
-        41353556 => rows::apply_vector(e, Orientation::Body, p, q, j),
-        1145904 => rows::apply_vector(e, Orientation::Wan, p, q, j),
-        58037 => rows::apply_aer(e, Orientation::Enu, p, q, j),
-        70008 => rows::apply_aer(e, Orientation::Ned, p, q, j),
-        1996175 => rows::apply_aer(e, Orientation::Body, p, q, j),
-        82191 => rows::apply_aer(e, Orientation::Wan, p, q, j),
-        628937 => frame_rows::apply_look(e, p, q, j),
+        words::GEO => rows::apply_geo(e, p, q, j),
+        words::LLA => rows::apply_lla(e, p, q, j),
+        words::VENU => rows::apply_vector(e, Orientation::Enu, p, q, j),
+        words::VNED => rows::apply_vector(e, Orientation::Ned, p, q, j),
+        words::VBODY => rows::apply_vector(e, Orientation::Body, p, q, j),
+        words::VWAN => rows::apply_vector(e, Orientation::Wan, p, q, j),
+        words::AENU => rows::apply_aer(e, Orientation::Enu, p, q, j),
+        words::ANED => rows::apply_aer(e, Orientation::Ned, p, q, j),
+        words::ABODY => rows::apply_aer(e, Orientation::Body, p, q, j),
+        words::AWAN => rows::apply_aer(e, Orientation::Wan, p, q, j),
+        words::LOOK => frame_rows::apply_look(e, p, q, j),
         _ => Applied::NoRow,
     }
 }
@@ -70,7 +71,7 @@ pub fn apply_four(e: Ellipsoid, code: u64, p: Value, q: Value, j: Value, s: Valu
     ensures { λ r. ⌜ Applies e code (p ∷ q ∷ j ∷ s ∷ []) r ⌝ }
 {
     match code {
-        122014 => frame_rows::apply_body(e, p, q, j, s),
+        words::BODY => frame_rows::apply_body(e, p, q, j, s),
         _ => Applied::NoRow,
     }
 }
@@ -87,7 +88,7 @@ pub fn apply_five(
     ensures { λ r. ⌜ Applies e code (p ∷ q ∷ j ∷ s ∷ t ∷ []) r ⌝ }
 {
     match code {
-        679843 => frame_rows::apply_move(e, p, q, j, s, t),
+        words::MOVE => frame_rows::apply_move(e, p, q, j, s, t),
         _ => Applied::NoRow,
     }
 }

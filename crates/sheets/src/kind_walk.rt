@@ -9,6 +9,7 @@ use crate::kinds::kind_of_row;
 use crate::newest::word_place;
 use crate::num::NumRead;
 use crate::num::num;
+use crate::words;
 ghost use mathlib.Core.Path.{_≡_};
 ghost use Rattle.sheets.specs.code.Walking.{readingKind, kindFound, ForKnown, LeafHas, ExprHas, ArgsHave};
 
@@ -28,16 +29,16 @@ pub enum KeyRead {
 fn reading_kind(code: u64) -> u8
     ensures { λ r. ⌜ r ≡ readingKind code ⌝ }
 {
-    if code < 693 {
+    if code < words::R0 {
         return 255;
     }
-    if code <= 702 {
+    if code <= words::R9 {
         return 0;
     }
-    if code < 25705 {
+    if code < words::R10 {
         return 255;
     }
-    if code <= 25710 {
+    if code <= words::R15 {
         return 0;
     }
     255

@@ -14,6 +14,7 @@ use crate::text::output_line;
 use crate::value::Slot;
 use crate::value::Value;
 use crate::value::no_names;
+use crate::words;
 use frames::ellipsoid::Ellipsoid;
 ghost use mathlib.Core.Path.{_≡_};
 ghost use lib.Dec.{eqb};
@@ -27,22 +28,22 @@ fn reading_index(code: u64) -> usize
     ensures { λ r. ⌜ r ≡ readingIndex code ⌝ }
 {
     match code {
-        693 => 0,
-        694 => 1,
-        695 => 2,
-        696 => 3,
-        697 => 4,
-        698 => 5,
-        699 => 6,
-        700 => 7,
-        701 => 8,
-        702 => 9,
-        25705 => 10,
-        25706 => 11,
-        25707 => 12,
-        25708 => 13,
-        25709 => 14,
-        25710 => 15,
+        words::R0 => 0,
+        words::R1 => 1,
+        words::R2 => 2,
+        words::R3 => 3,
+        words::R4 => 4,
+        words::R5 => 5,
+        words::R6 => 6,
+        words::R7 => 7,
+        words::R8 => 8,
+        words::R9 => 9,
+        words::R10 => 10,
+        words::R11 => 11,
+        words::R12 => 12,
+        words::R13 => 13,
+        words::R14 => 14,
+        words::R15 => 15,
         _ => 16,
     }
 }

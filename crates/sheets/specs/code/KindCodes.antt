@@ -2,13 +2,14 @@
 use mathlib.Core.Path.{_≡_}
 use mathlib.Core.List.{List, [], _∷_}
 use mathlib.Core.Option.{Option, none, some}
-use mathlib.Core.Bool.{_&&_}
+use mathlib.Core.Bool.{Bool, _&&_, not}
 use Prim.Native.Nat.{ℕ, suc, _+_, _*_}
 use lib.Dec.{eqb}
+use mir.Val.{hasKey}
 use Rattle.sheets.specs.code.Codes.{codeOf}
 use Rattle.sheets.specs.Kinds.{Kind, kindCode}
 use Rattle.sheets.specs.Table.{Row, when, table}
-use Rattle.sheets.specs.Lookup.{KindRow, kindRows}
+use Rattle.sheets.specs.Lookup.{oriented, KindRow, kindRows}
 
 -- kinds as digits 1 to 13 to the base 16, after those that made the number n
 unfoldable pub keyFrom : ℕ → List Kind → ℕ
@@ -37,9 +38,18 @@ abbrev pub Missed : List ℕ → ℕ → Type 0
 Missed [] x = Unit {0}
 Missed (k ∷ ks) x = Missed ks x × (x ≡ k → ⊥)
 
--- the codes of the operators that take no vector and no frame: the words of the table down to look, the last first
-abbrev pub plainCodes : List ℕ
-plainCodes = 628937 ∷ 122014 ∷ 31538 ∷ 19355 ∷ 7384 ∷ 82191 ∷ 1996175 ∷ 70008 ∷ 58037 ∷ 1145904 ∷ 41353556 ∷ 1133721 ∷ 1121750 ∷ 38259888 ∷ 38252798 ∷ 16873 ∷ 9783 ∷ 13 ∷ 5668 ∷ []
+-- the codes of the words of the rows for which p holds, each once and the last first, before the codes ks
+unfoldable pub codesFor : (Row → Bool) → List Row → List ℕ → List ℕ
+codesFor p [] ks = ks
+codesFor p (r ∷ rs) ks = codesFor p rs (when (p r && not (hasKey ks (codeOf (r .word)))) (codeOf (r .word) ∷ ks) ks)
+
+-- those of the operators that take no vector and no frame
+unfoldable pub plainCodes : List ℕ
+plainCodes = codesFor (λ r. not (oriented (r .takes))) table []
+
+-- those of the operators that take one
+unfoldable pub orientedCodes : List ℕ
+orientedCodes = codesFor (λ r. oriented (r .takes)) table []
 
 -- the same, for a word with none of the codes
 pub record RowKindBeyond (codes : List ℕ) (code key r : ℕ) : Type 0 where

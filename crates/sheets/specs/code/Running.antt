@@ -2,7 +2,7 @@
 -- No part of what must be believed: they only tie the code to the machine.
 use Prim.Native.Nat.{ℕ, zero, suc, _+_, _-_, _*_, _<_, _≤_}
 use mathlib.Core.Path.{_≡_}
-use mathlib.Core.List.{List, [], _∷_}
+use mathlib.Core.List.{List, [], _∷_, map}
 use lib.Dec.{eqb, leb}
 use lib.ListN.{length, getD}
 use lib.Ieee.{Float}
@@ -18,7 +18,7 @@ use Rattle.sheets.specs.Trees.{Expr, Line, let-line, show-line, numbered
 use Rattle.sheets.specs.Grammar.{IsWord}
 use Rattle.sheets.specs.code.Codes.{codeOf}
 use Rattle.sheets.specs.code.Reader.{got, readWord, readLine, formed, readLines}
-use Rattle.sheets.specs.Names.{Known, lookup}
+use Rattle.sheets.specs.Names.{Known, lookup, readingWords}
 use Rattle.sheets.specs.Table.{when}
 use Rattle.sheets.specs.Refusals.{stop, refusalNumber}
 use Rattle.sheets.specs.Machine.{Out, goes, stops, sticks, meet, eval, State, steps}
@@ -38,7 +38,7 @@ indexIn (k ∷ ks) c = when (eqb c k) 0 (suc (indexIn ks c))
 
 -- the number of the reading whose word has this code, r0 to r15; 16 for none
 unfoldable pub readingIndex : ℕ → ℕ
-readingIndex c = indexIn (693 ∷ 694 ∷ 695 ∷ 696 ∷ 697 ∷ 698 ∷ 699 ∷ 700 ∷ 701 ∷ 702 ∷ 25705 ∷ 25706 ∷ 25707 ∷ 25708 ∷ 25709 ∷ 25710 ∷ []) c
+readingIndex c = indexIn (map codeOf readingWords) c
 
 unfoldable pub readingFound : ℕ → List Float → Found
 readingFound c rs = let i = readingIndex c in when (leb 16 i) Found.Unknown (Found.Value (Number (getD rs i (num 0))))

@@ -1,9 +1,9 @@
 -- `sheets::dispatch::apply_four` meets its contract. Assumes nothing.
-use mathlib.Core.List.{List, [], _∷_}
-use Prim.Native.Nat.{ℕ}
+use mathlib.Core.List.{[], _∷_}
 use Rattle.sheets.specs.Text.{ascii}
 use Rattle.sheets.specs.code.Codes.{wordChar, codeFrom}
 use Rattle.sheets.specs.Table.{table}
+use Rattle.sheets.specs.code.KindCodes.{codesFor}
 use Rattle.sheets.proofs.AppliedLaws.{arm, no-row}
 use borrow.Author.Needs.{needs}
 use Rattle.sheets.proofs.dispatch.apply_four.Statement.{statement}
@@ -16,13 +16,9 @@ returns : tie.Need-returns
 unfolding wordChar codeFrom
 returns c = arm (ascii "body") tt _ _ _ (c .apply-body .ensures) _ (c .before .match .keys1)
 
--- the codes of the arms, the last first
-abbrev codes : List ℕ
-codes = 122014 ∷ []
-
 returns-2 : tie.Need-returns-2
-unfolding table wordChar codeFrom
-returns-2 c = no-row codes _ (c .before .args .p ∷ c .before .args .q ∷ c .before .args .j ∷ c .before .args .s ∷ []) tt _ (c .match .rest)
+unfolding codesFor table wordChar codeFrom
+returns-2 c = no-row _ (c .before .args .p ∷ c .before .args .q ∷ c .before .args .j ∷ c .before .args .s ∷ []) tt _ (c .match .rest)
 
 pub apply-four-spec : {M : Type 1} → statement M
 apply-four-spec = tie.close (tie.spec apply-body-requires returns returns-2)

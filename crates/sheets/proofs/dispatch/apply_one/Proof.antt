@@ -1,9 +1,9 @@
 -- `sheets::dispatch::apply_one` meets its contract. Assumes nothing.
-use mathlib.Core.List.{List, [], _∷_}
-use Prim.Native.Nat.{ℕ}
+use mathlib.Core.List.{[], _∷_}
 use Rattle.sheets.specs.Text.{ascii}
 use Rattle.sheets.specs.code.Codes.{wordChar, codeFrom}
 use Rattle.sheets.specs.Table.{table}
+use Rattle.sheets.specs.code.KindCodes.{codesFor}
 use Rattle.sheets.proofs.AppliedLaws.{arm, no-row}
 use borrow.Author.Needs.{needs}
 use Rattle.sheets.proofs.dispatch.apply_one.Statement.{statement}
@@ -114,13 +114,9 @@ returns-15 : tie.Need-returns-15
 unfolding wordChar codeFrom
 returns-15 c = arm (ascii "rx") tt _ _ _ (c .apply-rx .ensures) _ (c .before .match .keys15)
 
--- the codes of the arms, the last first
-abbrev codes : List ℕ
-codes = 690 ∷ 691 ∷ 692 ∷ 1074360060 ∷ 33804981 ∷ 269900 ∷ 5480971364 ∷ 993947 ∷ 19358 ∷ 19355 ∷ 7384 ∷ 38259888 ∷ 38252798 ∷ 13 ∷ 5668 ∷ []
-
 returns-16 : tie.Need-returns-16
-unfolding table wordChar codeFrom
-returns-16 c = no-row codes _ (c .before .args .p ∷ []) tt _ (c .match .rest)
+unfolding codesFor table wordChar codeFrom
+returns-16 c = no-row _ (c .before .args .p ∷ []) tt _ (c .match .rest)
 
 pub apply-one-spec : {M : Type 1} → statement M
 apply-one-spec = tie.close (tie.spec apply-deg-requires apply-m-requires apply-togeo-requires apply-tolla-requires apply-enu-requires apply-ned-requires apply-neg-requires apply-swap-requires apply-bearing-requires apply-elev-requires apply-range-requires apply-origin-requires apply-rz-requires apply-ry-requires apply-rx-requires returns returns-2 returns-3 returns-4 returns-5 returns-6 returns-7 returns-8 returns-9 returns-10 returns-11 returns-12 returns-13 returns-14 returns-15 returns-16)

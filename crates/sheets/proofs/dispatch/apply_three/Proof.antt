@@ -1,9 +1,9 @@
 -- `sheets::dispatch::apply_three` meets its contract. Assumes nothing.
-use mathlib.Core.List.{List, [], _∷_}
-use Prim.Native.Nat.{ℕ}
+use mathlib.Core.List.{[], _∷_}
 use Rattle.sheets.specs.Text.{ascii}
 use Rattle.sheets.specs.code.Codes.{wordChar, codeFrom}
 use Rattle.sheets.specs.Table.{table}
+use Rattle.sheets.specs.code.KindCodes.{codesFor}
 use Rattle.sheets.proofs.AppliedLaws.{arm, no-row}
 use borrow.Author.Needs.{needs}
 use Rattle.sheets.proofs.dispatch.apply_three.Statement.{statement}
@@ -86,13 +86,9 @@ returns-11 : tie.Need-returns-11
 unfolding wordChar codeFrom
 returns-11 c = arm (ascii "look") tt _ _ _ (c .apply-look .ensures) _ (c .before .match .keys11)
 
--- the codes of the arms, the last first
-abbrev codes : List ℕ
-codes = 628937 ∷ 82191 ∷ 1996175 ∷ 70008 ∷ 58037 ∷ 1145904 ∷ 41353556 ∷ 1133721 ∷ 1121750 ∷ 16873 ∷ 9783 ∷ []
-
 returns-12 : tie.Need-returns-12
-unfolding table wordChar codeFrom
-returns-12 c = no-row codes _ (c .before .args .p ∷ c .before .args .q ∷ c .before .args .j ∷ []) tt _ (c .match .rest)
+unfolding codesFor table wordChar codeFrom
+returns-12 c = no-row _ (c .before .args .p ∷ c .before .args .q ∷ c .before .args .j ∷ []) tt _ (c .match .rest)
 
 pub apply-three-spec : {M : Type 1} → statement M
 apply-three-spec = tie.close (tie.spec apply-geo-requires apply-lla-requires apply-vector-requires apply-vector-requires-2 apply-vector-requires-3 apply-vector-requires-4 apply-aer-requires apply-aer-requires-2 apply-aer-requires-3 apply-aer-requires-4 apply-look-requires returns returns-2 returns-3 returns-4 returns-5 returns-6 returns-7 returns-8 returns-9 returns-10 returns-11 returns-12)

@@ -1,9 +1,9 @@
 -- `sheets::dispatch::apply_two` meets its contract. Assumes nothing.
-use mathlib.Core.List.{List, [], _∷_}
-use Prim.Native.Nat.{ℕ}
+use mathlib.Core.List.{[], _∷_}
 use Rattle.sheets.specs.Text.{ascii}
 use Rattle.sheets.specs.code.Codes.{wordChar, codeFrom}
 use Rattle.sheets.specs.Table.{table}
+use Rattle.sheets.specs.code.KindCodes.{codesFor}
 use Rattle.sheets.proofs.AppliedLaws.{arm, no-row}
 use borrow.Author.Needs.{needs}
 use Rattle.sheets.proofs.dispatch.apply_two.Statement.{statement}
@@ -58,13 +58,9 @@ returns-7 : tie.Need-returns-7
 unfolding wordChar codeFrom
 returns-7 c = arm (ascii "scale") tt _ _ _ (c .apply-scale .ensures) _ (c .before .match .keys7)
 
--- the codes of the arms, the last first
-abbrev codes : List ℕ
-codes = 35762836 ∷ 26790 ∷ 1521 ∷ 57 ∷ 755 ∷ 1042489 ∷ 31538 ∷ []
-
 returns-8 : tie.Need-returns-8
-unfolding table wordChar codeFrom
-returns-8 c = no-row codes _ (c .before .args .p ∷ c .before .args .q ∷ []) tt _ (c .match .rest)
+unfolding codesFor table wordChar codeFrom
+returns-8 c = no-row _ (c .before .args .p ∷ c .before .args .q ∷ []) tt _ (c .match .rest)
 
 pub apply-two-spec : {M : Type 1} → statement M
 apply-two-spec = tie.close (tie.spec apply-wan-requires apply-turn-requires apply-to-requires apply-at-requires apply-add-requires apply-sub-requires apply-scale-requires returns returns-2 returns-3 returns-4 returns-5 returns-6 returns-7 returns-8)

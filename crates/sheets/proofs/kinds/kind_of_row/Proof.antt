@@ -3,7 +3,7 @@ use Rattle.sheets.specs.Text.{ascii}
 use Rattle.sheets.specs.code.Codes.{wordChar, codeFrom}
 use Rattle.sheets.specs.Table.{table}
 use Rattle.sheets.specs.Lookup.{kindRows}
-use Rattle.sheets.specs.code.KindCodes.{searchNum, keyFrom}
+use Rattle.sheets.specs.code.KindCodes.{searchNum, keyFrom, codesFor, plainCodes}
 use Rattle.sheets.proofs.KindRowLaws.{kind-arm}
 use borrow.Author.Needs.{needs}
 use Rattle.sheets.proofs.kinds.kind_of_row.Statement.{statement}
@@ -146,6 +146,7 @@ unfolding searchNum kindRows table wordChar codeFrom keyFrom
 returns-19 c = kind-arm (ascii "look") _ _ _ (c .before .match .keys19) (c .either5 .ensures)
 
 returns-20 : tie.Need-returns-20
+unfolding plainCodes codesFor table wordChar codeFrom
 returns-20 c = c .kind-by-orientation .ensures .is (c .before .match .rest)
 
 pub kind-of-row-spec : {M : Type 1} → statement M
