@@ -11,7 +11,7 @@ use lib.Seq.{getD-set-same, getD-set-other}
 use mir.Facts.{and-yes}
 use mir.Val.{hasKey}
 use borrow.Author.Tests.{eq-eqb, ne-eqb, eqb-true, eqb-false, leb-true, le-leb, lt-leb}
-use Rattle.sheets.specs.Text.{Word}
+use Rattle.sheets.specs.Text.{Word, ascii}
 use Rattle.sheets.specs.Grammar.{IsWord}
 use Rattle.sheets.specs.code.Codes.{wordChar, codeFrom, codeOf}
 use Rattle.sheets.specs.Kinds.{Kind, number, kindCode}
@@ -66,8 +66,21 @@ run ks start end n len t c h =
     let e : start + (c - start) ≡ c = omega arith in
     yes-is _ (subst (λ x. T (hasKey ks x)) e (below (λ i. hasKey ks (start + i)) n t (c - start) (omega arith)))
 
+-- the codes of r0 and r9, and those of r10 and r15, between which the others' stand
+abbrev r0 : ℕ
+r0 = codeOf (ascii "r0")
+
+abbrev r9 : ℕ
+r9 = codeOf (ascii "r9")
+
+abbrev r10 : ℕ
+r10 = codeOf (ascii "r10")
+
+abbrev r15 : ℕ
+r15 = codeOf (ascii "r15")
+
 abbrev inRanges : ℕ → Bool
-inRanges c = (leb 693 c && leb c 702) || (leb 25705 c && leb c 25710)
+inRanges c = (leb r0 c && leb c r9) || (leb r10 c && leb c r15)
 
 in-ranges : (ks : List ℕ) → T (every inRanges ks) → (c : ℕ) → inRanges c ≡ false → hasKey ks c ≡ false
 in-ranges ks t c h = go (hasKey ks c) refl
@@ -79,37 +92,37 @@ in-ranges ks t c h = go (hasKey ks c) refl
 -- the codes of r0 to r9, and those of r10 to r15
 ranges-are : (c : ℕ) → inRanges c ≡ hasKey readingCodes c
 unfolding wordChar codeFrom
-ranges-are c = go (leb 693 c && leb c 702) refl (leb 25705 c && leb c 25710) refl
+ranges-are c = go (leb r0 c && leb c r9) refl (leb r10 c && leb c r15) refl
   where
-    go : (a : Bool) → (leb 693 c && leb c 702) ≡ a → (b : Bool) → (leb 25705 c && leb c 25710) ≡ b → (a || b) ≡ hasKey readingCodes c
-    go true e b f = sym (run readingCodes 693 702 10 refl tt c (subst T (sym e) tt))
-    go false e true f = sym (run readingCodes 25705 25710 6 refl tt c (subst T (sym f) tt))
+    go : (a : Bool) → (leb r0 c && leb c r9) ≡ a → (b : Bool) → (leb r10 c && leb c r15) ≡ b → (a || b) ≡ hasKey readingCodes c
+    go true e b f = sym (run readingCodes r0 r9 10 refl tt c (subst T (sym e) tt))
+    go false e true f = sym (run readingCodes r10 r15 6 refl tt c (subst T (sym f) tt))
     go false e false f = sym (in-ranges readingCodes tt c (rw (e, f) refl))
 
 pub reading-is : (w : Word) → IsWord w → readingKind (codeOf w) ≡ kindOr255 (lookup w readingKinds)
-unfolding readingKind
+unfolding readingKind wordChar codeFrom
 reading-is w hw = ap (λ b. when b 0 255) (ranges-are (codeOf w)) ∙ by-codes readingWords readings-are w hw
 
 module _ (c : ℕ) where
-  pub reading-before : c < 693 → 255 ≡ readingKind c
-  unfolding readingKind
-  reading-before h = rw (lt-leb 693 c h, lt-leb 25705 c (omega arith)) refl
+  pub reading-before : c < r0 → 255 ≡ readingKind c
+  unfolding readingKind wordChar codeFrom
+  reading-before h = rw (lt-leb r0 c h, lt-leb r10 c (omega arith)) refl
 
-  pub reading-low : 693 ≤ c → c ≤ 702 → 0 ≡ readingKind c
-  unfolding readingKind
-  reading-low l h = rw (le-leb 693 c l, le-leb c 702 h) refl
+  pub reading-low : r0 ≤ c → c ≤ r9 → 0 ≡ readingKind c
+  unfolding readingKind wordChar codeFrom
+  reading-low l h = rw (le-leb r0 c l, le-leb c r9 h) refl
 
-  pub reading-between : 702 < c → c < 25705 → 255 ≡ readingKind c
-  unfolding readingKind
-  reading-between l h = rw (le-leb 693 c (omega arith), lt-leb c 702 l, lt-leb 25705 c h) refl
+  pub reading-between : r9 < c → c < r10 → 255 ≡ readingKind c
+  unfolding readingKind wordChar codeFrom
+  reading-between l h = rw (le-leb r0 c (omega arith), lt-leb c r9 l, lt-leb r10 c h) refl
 
-  pub reading-high : 25705 ≤ c → c ≤ 25710 → 0 ≡ readingKind c
-  unfolding readingKind
-  reading-high l h = rw (le-leb 693 c (omega arith), lt-leb c 702 (omega arith), le-leb 25705 c l, le-leb c 25710 h) refl
+  pub reading-high : r10 ≤ c → c ≤ r15 → 0 ≡ readingKind c
+  unfolding readingKind wordChar codeFrom
+  reading-high l h = rw (le-leb r0 c (omega arith), lt-leb c r9 (omega arith), le-leb r10 c l, le-leb c r15 h) refl
 
-  pub reading-behind : 25710 < c → 255 ≡ readingKind c
-  unfolding readingKind
-  reading-behind h = rw (le-leb 693 c (omega arith), lt-leb c 702 (omega arith), le-leb 25705 c (omega arith), lt-leb c 25710 h) refl
+  pub reading-behind : r15 < c → 255 ≡ readingKind c
+  unfolding readingKind wordChar codeFrom
+  reading-behind h = rw (le-leb r0 c (omega arith), lt-leb c r9 (omega arith), le-leb r10 c (omega arith), lt-leb c r15 h) refl
 
 -- ---- a word's kind by its place: that of its line, or a reading's
 

@@ -119,7 +119,7 @@ fn kind_by_orientation(code: u64, key: u64) -> u8
     }
 }
 
-// Whether the word with this code is an operator's. Where rx, ry and rz, whose codes follow each other, share an arm, it is compiled to other tests.
+// Whether the word with this code is an operator's. ry stands apart from rx and rz: codes that follow each other would be compiled to a range.
 pub fn opens(code: u64) -> bool
     ensures { λ r. ⌜ r ≡ hasKey (rowCodes table) code ⌝ }
 {

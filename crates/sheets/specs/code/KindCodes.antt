@@ -47,10 +47,6 @@ codesFor p (r ∷ rs) ks = codesFor p rs (when (p r && not (hasKey ks (codeOf (r
 unfoldable pub plainCodes : List ℕ
 plainCodes = codesFor (λ r. not (oriented (r .takes))) table []
 
--- those of the operators that take one
-unfoldable pub orientedCodes : List ℕ
-orientedCodes = codesFor (λ r. oriented (r .takes)) table []
-
 -- the same, for a word with none of the codes
 pub record RowKindBeyond (codes : List ℕ) (code key r : ℕ) : Type 0 where
   pub is : Missed codes code → RowKind code key r

@@ -1,9 +1,11 @@
 -- `sheets::kinds::kind_by_orientation` meets its contract. Assumes nothing.
+use mathlib.Core.List.{List, []}
+use Prim.Native.Nat.{ℕ}
 use Rattle.sheets.specs.Text.{ascii}
 use Rattle.sheets.specs.code.Codes.{wordChar, codeFrom}
 use Rattle.sheets.specs.Table.{table}
-use Rattle.sheets.specs.Lookup.{kindRows}
-use Rattle.sheets.specs.code.KindCodes.{searchNum, keyFrom, codesFor, plainCodes, orientedCodes}
+use Rattle.sheets.specs.Lookup.{oriented, kindRows}
+use Rattle.sheets.specs.code.KindCodes.{searchNum, keyFrom, codesFor, plainCodes}
 use Rattle.sheets.proofs.KindRowLaws.{kind-arm, no-kind}
 use borrow.Author.Needs.{needs}
 use Rattle.sheets.proofs.kinds.kind_by_orientation.Statement.{statement}
@@ -121,9 +123,13 @@ returns-16 : tie.Need-returns-16
 unfolding searchNum kindRows table wordChar codeFrom keyFrom
 returns-16 c = record { is = λ m. kind-arm (ascii "rx") _ _ _ (c .before .match .keys16) (c .four9 .ensures) }
 
+-- the codes of the arms, the last first
+abbrev codes : List ℕ
+codes = codesFor (λ r. oriented (r .takes)) table []
+
 returns-17 : tie.Need-returns-17
-unfolding kindRows plainCodes orientedCodes codesFor table wordChar codeFrom
-returns-17 c = record { is = λ m. no-kind plainCodes orientedCodes tt (c .before .args .code) (c .before .args .key) m (c .match .rest) }
+unfolding kindRows plainCodes codesFor table wordChar codeFrom
+returns-17 c = record { is = λ m. no-kind plainCodes codes tt (c .before .args .code) (c .before .args .key) m (c .match .rest) }
 
 pub kind-by-orientation-spec : {M : Type 1} → statement M
 kind-by-orientation-spec = tie.close (tie.spec three-requires four-requires vector-requires four-requires-2 vector-requires-2 vector-requires-3 vector-requires-4 vector-requires-5 swapped-requires four-requires-3 four-requires-4 four-requires-5 four-requires-6 four-requires-7 four-requires-8 four-requires-9 returns returns-2 returns-3 returns-4 returns-5 returns-6 returns-7 returns-8 returns-9 returns-10 returns-11 returns-12 returns-13 returns-14 returns-15 returns-16 returns-17)

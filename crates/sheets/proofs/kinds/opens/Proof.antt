@@ -8,7 +8,7 @@ use Rattle.sheets.proofs.KindRowLaws.{opens-yes, opens-no}
 use Rattle.sheets.proofs.kinds.opens.Statement.{statement}
 use Rattle.sheets.proofs.kinds.opens.Tie as tie
 
--- the codes of each arm
+-- the codes of each arm, in their order
 abbrev arm1 : List ℕ
 arm1 = map codeOf (ascii "m" ∷ ascii "deg" ∷ ascii "geo" ∷ ascii "lla" ∷ ascii "togeo" ∷ ascii "tolla" ∷ [])
 
