@@ -100,29 +100,33 @@ ranges-are c = go (leb r0 c && leb c r9) refl (leb r10 c && leb c r15) refl
     go false e false f = sym (in-ranges readingCodes tt c (rw (e, f) refl))
 
 pub reading-is : (w : Word) → IsWord w → readingKind (codeOf w) ≡ kindOr255 (lookup w readingKinds)
-unfolding readingKind wordChar codeFrom
-reading-is w hw = ap (λ b. when b 0 255) (ranges-are (codeOf w)) ∙ by-codes readingWords readings-are w hw
+unfolding readingKind
+reading-is w hw = by-codes readingWords readings-are w hw
 
 module _ (c : ℕ) where
+  by-range : (b : Bool) → inRanges c ≡ b → when b 0 255 ≡ readingKind c
+  unfolding readingKind
+  by-range b e = ap (λ x. when x 0 255) (sym e ∙ ranges-are c)
+
   pub reading-before : c < r0 → 255 ≡ readingKind c
-  unfolding readingKind wordChar codeFrom
-  reading-before h = rw (lt-leb r0 c h, lt-leb r10 c (omega arith)) refl
+  unfolding wordChar codeFrom
+  reading-before h = by-range false (rw (lt-leb r0 c h, lt-leb r10 c (omega arith)) refl)
 
   pub reading-low : r0 ≤ c → c ≤ r9 → 0 ≡ readingKind c
-  unfolding readingKind wordChar codeFrom
-  reading-low l h = rw (le-leb r0 c l, le-leb c r9 h) refl
+  unfolding wordChar codeFrom
+  reading-low l h = by-range true (rw (le-leb r0 c l, le-leb c r9 h) refl)
 
   pub reading-between : r9 < c → c < r10 → 255 ≡ readingKind c
-  unfolding readingKind wordChar codeFrom
-  reading-between l h = rw (le-leb r0 c (omega arith), lt-leb c r9 l, lt-leb r10 c h) refl
+  unfolding wordChar codeFrom
+  reading-between l h = by-range false (rw (le-leb r0 c (omega arith), lt-leb c r9 l, lt-leb r10 c h) refl)
 
   pub reading-high : r10 ≤ c → c ≤ r15 → 0 ≡ readingKind c
-  unfolding readingKind wordChar codeFrom
-  reading-high l h = rw (le-leb r0 c (omega arith), lt-leb c r9 (omega arith), le-leb r10 c l, le-leb c r15 h) refl
+  unfolding wordChar codeFrom
+  reading-high l h = by-range true (rw (le-leb r0 c (omega arith), lt-leb c r9 (omega arith), le-leb r10 c l, le-leb c r15 h) refl)
 
   pub reading-behind : r15 < c → 255 ≡ readingKind c
-  unfolding readingKind wordChar codeFrom
-  reading-behind h = rw (le-leb r0 c (omega arith), lt-leb c r9 (omega arith), le-leb r10 c (omega arith), lt-leb c r15 h) refl
+  unfolding wordChar codeFrom
+  reading-behind h = by-range false (rw (le-leb r0 c (omega arith), lt-leb c r9 (omega arith), le-leb r10 c (omega arith), lt-leb c r15 h) refl)
 
 -- ---- a word's kind by its place: that of its line, or a reading's
 

@@ -2,9 +2,10 @@
 -- No part of what must be believed: they only tie the code to the definitions.
 use Prim.Native.Nat.{ℕ, zero, suc, _+_, _≤_}
 use mathlib.Core.Path.{_≡_}
-use mathlib.Core.Bool.{Bool, true, false, _&&_, _||_}
-use mathlib.Core.List.{List, _∷_}
-use lib.Dec.{eqb, leb}
+use mathlib.Core.Bool.{Bool, true, false}
+use mathlib.Core.List.{List, _∷_, map}
+use lib.Dec.{eqb}
+use mir.Val.{hasKey}
 use lib.ListN.{length, getD, take}
 use Rattle.frames.specs.declared.ellipsoid.Ellipsoid.{Ellipsoid}
 use Rattle.sheets.specs.Text.{Word}
@@ -14,7 +15,7 @@ use Rattle.sheets.specs.code.Codes.{codeOf}
 use Rattle.sheets.specs.code.Reader.{Got, got, readArgs, readExpr, formed, readLines}
 use Rattle.sheets.specs.Kinds.{Kind, kindCode}
 use Rattle.sheets.specs.Table.{when}
-use Rattle.sheets.specs.Names.{Known, lookup, barred}
+use Rattle.sheets.specs.Names.{Known, lookup, barred, readingWords}
 use Rattle.sheets.specs.code.Newest.{searchFrom, Newest}
 use Rattle.sheets.specs.code.KindCodes.{keyFrom, kindOr255}
 use Rattle.sheets.specs.Refusals.{name, Refusal, fault, refusalNumber, Checked, fine, bad, thenᶜ, known?}
@@ -29,9 +30,9 @@ use Rattle.sheets.specs.declared.admit.Admission.{Admission}
 
 -- ---- the words of the lines passed: line i + 1 has the word with the code at the place i of `words`, of the kind with the code there of `codes`
 
--- the kind code of a reading by its word's code, those of r0 to r9 and of r10 to r15; 255 for none
+-- the kind code of a reading by its word's code; 255 for none
 unfoldable pub readingKind : ℕ → ℕ
-readingKind c = when ((leb 693 c && leb c 702) || (leb 25705 c && leb c 25710)) 0 255
+readingKind c = when (hasKey (map codeOf readingWords) c) 0 255
 
 -- the kind code of the word with this code by the lines after line 1, the newest first, and then the readings; 255 where it is unknown
 unfoldable pub kindFrom : List ℕ → List ℕ → ℕ → ℕ → ℕ
