@@ -1,34 +1,32 @@
--- The check's walk over the lines, a turn at a time, and the whole sheet: a law for each way out of `admit_lines` and `admit`. Assumes nothing.
+-- The check's walk over the lines, a turn at a time, and the whole sheet: a law for each way out of `walk_lines`, `unless_bad` and `admit`. Assumes nothing.
 use Prim.Native.Nat.{ℕ, suc, _+_, _-_, _%_, _<_, _≤_}
 use native.Mathlib.Omega.{arith}
 use mathlib.Core.Path.{_≡_, refl, sym, ap, _∙_, subst}
 use mathlib.Core.Bool.{Bool, true, false}
 use mathlib.Core.List.{List, [], _∷_, _++_}
 use mathlib.Core.Option.{Option, none, some}
-use lib.Dec.{leb}
 use lib.ListN.{length, take, set, replicate}
 use lib.Seq.{take-suc-set, length-take-le}
-use borrow.Author.Tests.{leb-true, leb-false}
 use Rattle.frames.specs.declared.ellipsoid.Ellipsoid.{Ellipsoid}
 use Rattle.sheets.specs.Trees.{Line, let-line, show-line, Head, Sheet, numbered}
 use Rattle.sheets.specs.Grammar.{IsLine, after}
 use Rattle.sheets.specs.code.Codes.{codeOf}
-use Rattle.sheets.specs.code.Reader.{Got, none as noGot, got, readLine, readHead, Form, formed, badLine, _thenᶠ_, readLines, sheetStep, readSheet}
+use Rattle.sheets.specs.code.Reader.{Got, none as noGot, got, readLine, readHead, Form, formed, badLine, _thenᶠ_, linesStep, readLines, sheetStep, readSheet}
 use Rattle.sheets.specs.code.Views.{linesForm}
 use Rattle.sheets.specs.code.FirstLines.{firstIn, firstOf}
 use Rattle.sheets.specs.Kinds.{Kind, kindCode}
 use Rattle.sheets.specs.Names.{lookup, barred, givenOn}
-use Rattle.sheets.specs.Scopes.{withName, giveIf}
+use Rattle.sheets.specs.Scopes.{Scope, withName, giveIf}
 use Rattle.sheets.specs.Refusals.{Fault, name, fault, refusalNumber, Checked, fine, bad, thenᶜ, known?}
 use Rattle.sheets.specs.Check.{kindOfExpr, Stateᶜ, noted, stepᶜ, Walked, passes, refuses, onwardᶜ, stepsᶜ, startᶜ, walk}
-use Rattle.sheets.specs.Answers.{ranged, ofWalked, ofRange, ofForm}
+use Rattle.sheets.specs.Answers.{ranged, ofWalked, ofForm}
 use Rattle.sheets.specs.Machine.{surface}
 use Rattle.sheets.specs.declared.form.FormRead.{FormRead}
 use Rattle.sheets.specs.declared.first_line.FirstLine.{FirstLine}
 use Rattle.sheets.proofs.Spans.{holds-at}
 use Rattle.sheets.proofs.LineLaws.{LineStands, line-sound}
-use Rattle.sheets.proofs.Walks.{Step, walk-end, walk-line, walk-few}
-use Rattle.sheets.specs.code.Walking.{kindFrom, Stands, lineWord, unbarred, lineKind, lineSaid, LineHas, Walks, LinesWalk, Admits}
+use Rattle.sheets.proofs.Walks.{lines-end, lines-over, lines-step, Step, walk-line}
+use Rattle.sheets.specs.code.Walking.{kindFrom, Stands, lineWord, unbarred, lineKind, lineSaid, LineHas, Walks, LinesWalk, unlessBad, Admits}
 use Rattle.sheets.specs.declared.admit.LineKind.{LineKind}
 use Rattle.sheets.specs.declared.admit.Outcome.{Outcome}
 use Rattle.sheets.specs.declared.admit.Admission.{Admission}
@@ -37,9 +35,12 @@ use Rattle.sheets.proofs.PassedLaws.{reading-is, stands-given, stands-s
 
 -- ---- the state after a line whose word has the kind k
 
+abbrev scopeAfter : ℕ → Line → Kind → Scope Kind → Scope Kind
+scopeAfter i (let-line w x) k c = withName (givenOn i w k) c
+scopeAfter i (show-line w) k c = c
+
 abbrev stepped : ℕ → Stateᶜ → Line → Kind → Stateᶜ
-stepped i s (let-line w x) k = record { scope = withName (givenOn i w k) (s .scope); codes = s .codes ++ (kindCode k ∷ []) }
-stepped i s (show-line w) k = record { scope = s .scope; codes = s .codes ++ (kindCode k ∷ []) }
+stepped i s l k = record { scope = scopeAfter i l k (s .scope); codes = s .codes ++ (kindCode k ∷ []) }
 
 step-is : (i : ℕ) (s : Stateᶜ) (l : Line) → stepᶜ i s l ≡ thenᶜ (lineKind l (s .scope .known)) (λ k. fine (stepped i s l k))
 unfolding stepᶜ lineKind
@@ -63,214 +64,214 @@ laid-after : (codes : List ℕ) (n : ℕ) → n < length codes → (i : ℕ) (s 
     → take (n + 1) (set codes n (kindCode k)) ≡ 255 ∷ stepped i s l k .codes
 laid-after codes n h i s l k e =
     let en : n + 1 ≡ suc n = omega arith in
-    ap (λ j. take j (set codes n (kindCode k))) en ∙ take-suc-set codes n (kindCode k) h ∙ ap (λ z. z ++ (kindCode k ∷ [])) e ∙ go l
-  where
-    go : (l : Line) → (255 ∷ s .codes) ++ (kindCode k ∷ []) ≡ 255 ∷ stepped i s l k .codes
-    go (let-line w x) = refl
-    go (show-line w) = refl
+    ap (λ j. take j (set codes n (kindCode k))) en ∙ take-suc-set codes n (kindCode k) h ∙ ap (λ z. z ++ (kindCode k ∷ [])) e
 
--- ---- the walk over a sheet of so many lines, where so many after line 1 are passed and the next one stands at a place; the whole walk comes to o
+-- ---- readings put together
 
-pub record Midway (s : List ℕ) (all at passed : ℕ) (words codes newest : List ℕ) (o : Walked) : Type 0 where
-  pub lines : List Line
+alone : (f : Form (List Line)) → f ≡ (f thenᶠ (λ ls. formed ls))
+unfolding _thenᶠ_
+alone (formed ls) = refl
+alone (badLine j) = refl
+
+twice : (f : Form (List Line)) (g h : List Line → List Line) → ((f thenᶠ (λ ls. formed (g ls))) thenᶠ (λ ls. formed (h ls))) ≡ (f thenᶠ (λ ls. formed (h (g ls))))
+unfolding _thenᶠ_
+twice (formed ls) g h = refl
+twice (badLine j) g h = refl
+
+-- ---- the walk, where so many lines after line 1 are passed and the next one stands at a place: those before it were read, and make the state
+
+pub record Midway (s : List ℕ) (start at passed : ℕ) (words codes newest : List ℕ) : Type 0 where
+  pub before : List Line → List Line
   pub phase : ℕ
   pub state : Stateᶜ
-  pub count : passed + 1 + length lines ≡ all
-  pub goes : readLines (95 - passed) (passed + 2) phase s at ≡ formed lines
-  pub rest : stepsᶜ (numbered (passed + 2) lines) state ≡ o
+  pub whole : readLines 95 2 0 s start ≡ (readLines (95 - passed) (passed + 2) phase s at thenᶠ (λ ls. formed (before ls)))
+  pub walked : (ls : List Line) → stepsᶜ (numbered 2 (before ls)) startᶜ ≡ stepsᶜ (numbered (passed + 2) ls) state
   pub stands : Stands words codes newest passed (state .scope .known)
   pub laid : take (passed + 1) codes ≡ 255 ∷ state .codes
 
-pub midway-start : (s : List ℕ) (all at : ℕ) (ls : List Line) → readLines 95 2 0 s at ≡ formed ls → all ≡ length ls + 1 → Midway s all at 0 (replicate 96 0) (replicate 96 255) (replicate 512 0) (stepsᶜ (numbered 2 ls) startᶜ)
+pub midway-start : (s : List ℕ) (at : ℕ) → Midway s at at 0 (replicate 96 0) (replicate 96 255) (replicate 512 0)
 unfolding kindFrom
-midway-start s all at ls e n = record { lines = ls; phase = 0; state = startᶜ; count = omega arith; goes = e; rest = refl; stands = record { few = omega arith; from = newest-none _; is = reading-is }; laid = refl }
+midway-start s at = record { before = λ ls. ls; phase = 0; state = startᶜ; whole = alone (readLines 95 2 0 s at); walked = λ ls. refl; stands = record { few = omega arith; from = newest-none _; is = reading-is }; laid = refl }
 
-no-lines : (ls : List Line) → length ls ≤ 0 → ls ≡ []
-no-lines [] h = refl
-no-lines (l ∷ ls) h = absurd (omega arith)
+module _ (s : List ℕ) (start at passed : ℕ) (words codes newest : List ℕ) (m : Midway s start at passed words codes newest) where
+  -- the lines from this place on
+  abbrev onward : Form (List Line)
+  onward = readLines (95 - passed) (passed + 2) (m .phase) s at
 
-module _ (s : List ℕ) (all at passed : ℕ) (words codes newest : List ℕ) (o : Walked) (m : Midway s all at passed words codes newest o) where
-  pub walk-done : all ≤ 96 → length codes ≡ 96 → all ≤ passed + 1 → (e : Ellipsoid) (start : ℕ) → Walks o e start (record { outcome = Outcome.Passes all e start; codes = codes })
+  -- a answers the whole
+  abbrev pub Answers : Ellipsoid → Admission → Type 0
+  Answers e a = LinesWalk (readLines 95 2 0 s start) e start a
+
+  came : (f : Form (List Line)) → onward ≡ f → readLines 95 2 0 s start ≡ (f thenᶠ (λ ls. formed (m .before ls)))
+  came f e = m .whole ∙ ap (λ f. f thenᶠ (λ ls. formed (m .before ls))) e
+
+  walk-bad : (j : ℕ) → onward ≡ badLine j → (e : Ellipsoid) (a : Admission) → a .outcome ≡ Outcome.Refuses 3 j → Answers e a
+  unfolding _thenᶠ_ LinesWalk
+  walk-bad j h e a ea = subst (λ f. LinesWalk f e start a) (sym (came (badLine j) h)) ea
+
+  walk-formed : (ls : List Line) → onward ≡ formed ls → (e : Ellipsoid) (a : Admission) → Walks (stepsᶜ (numbered (passed + 2) ls) (m .state)) e start a → Answers e a
+  unfolding _thenᶠ_ LinesWalk
+  walk-formed ls h e a w = subst (λ f. LinesWalk f e start a) (sym (came (formed ls) h)) (subst (λ o. Walks o e start a) (sym (m .walked ls)) w)
+
+  pub walk-done : passed ≤ 95 → length codes ≡ 96 → length s ≤ at → (e : Ellipsoid) → Answers e (record { outcome = Outcome.Passes (passed + 1) e start; codes = codes })
   unfolding Walks stepsᶜ
-  walk-done le lc h e start =
-      let c = m .count in
-      let z = no-lines (m .lines) (omega arith) in
-      let w : passes (m .state .codes) ≡ o = ap (λ ls. stepsᶜ (numbered (passed + 2) ls) (m .state)) (sym z) ∙ m .rest in
+  walk-done le lc h e =
       let n : length (255 ∷ m .state .codes) ≡ passed + 1 = ap length (sym (m .laid)) ∙ length-take-le (passed + 1) codes (omega arith) in
-      let i : all ≡ length (255 ∷ m .state .codes) = omega arith in
-      subst (λ q. Walks q e start (record { outcome = Outcome.Passes all e start; codes = codes })) w
-      (ap (λ k. Outcome.Passes k e start) i, omega arith, ap (λ k. take k codes) n ∙ m .laid)
+      walk-formed [] (lines-end s at (passed + 2) (m .phase) (95 - passed) h) e _ (ap (λ k. Outcome.Passes k e start) (sym n), omega arith, ap (λ k. take k codes) n ∙ m .laid)
 
-  module _ (h : passed + 1 < all) where
-    inside : at < length s
-    inside = go (leb (length s) at) refl
-      where
-        go : (b : Bool) → leb (length s) at ≡ b → at < length s
-        go true e = let z = ap length (walk-end s (95 - passed) (passed + 2) (m .phase) at (m .lines) (m .goes) (leb-true (length s) at e)) in let c = m .count in absurd (omega arith)
-        go false e = leb-false (length s) at e
-
-    now : Step s (95 - passed) (passed + 2) (m .phase) at (m .lines) (m .goes)
-    now = walk-line s (95 - passed) (passed + 2) (m .phase) at (m .lines) (m .goes) inside
-
-    here : stepsᶜ (numbered (passed + 2) (now .line ∷ now .rest)) (m .state) ≡ o
-    here = ap (λ ls. stepsᶜ (numbered (passed + 2) ls) (m .state)) (sym (now .all)) ∙ m .rest
+  module _ (h : at < length s) where
+    pub walk-over : 95 ≤ passed → passed ≤ 95 → (e : Ellipsoid) (a : Admission) → a .outcome ≡ Outcome.Refuses 3 97 → Answers e a
+    walk-over l le e a ea =
+        let i : passed + 2 ≡ 97 = omega arith in
+        walk-bad (passed + 2) (lines-over s at (passed + 2) (m .phase) (95 - passed) (omega arith) h) e a (ea ∙ ap (λ j. Outcome.Refuses 3 j) (sym i))
 
     -- r is what the line came to
-    module _ (r : LineKind) (hr : LineHas (readLine s at) (m .state .scope .known) r) where
-      said : r ≡ lineSaid (lineWord (now .line)) (lineKind (now .line) (m .state .scope .known)) (now .next)
-      said = hr .is (now .line) (now .next) (now .stands)
-
-      pub walk-fault : (number : ℕ) → r ≡ LineKind.Refused number → (a : Admission) → a .outcome ≡ Outcome.Refuses number (passed + 2) → (e : Ellipsoid) (start : ℕ) → Walks o e start a
-      unfolding Walks lineSaid
-      walk-fault number er a ea el start = go (lineKind (now .line) (m .state .scope .known)) refl said
+    module _ (r : LineKind) (hr : LineHas (readLine s at) (m .state .scope .known) r) (le : passed < 95) where
+      pub walk-fault : (number : ℕ) → r ≡ LineKind.Refused number → (e : Ellipsoid) (a : Admission)
+          → a .outcome ≡ unlessBad (linesForm (passed + 2) (readLines (97 - (passed + 2)) (passed + 2) (m .phase) s at)) number (passed + 2) → Answers e a
+      unfolding Walks lineSaid linesForm unlessBad
+      walk-fault number er e a ea =
+          let i : 97 - (passed + 2) ≡ 95 - passed = omega arith in
+          go onward refl (ea ∙ ap (λ k. unlessBad (linesForm (passed + 2) (readLines k (passed + 2) (m .phase) s at)) number (passed + 2)) i)
         where
-          go : (q : Checked Kind) → lineKind (now .line) (m .state .scope .known) ≡ q → r ≡ lineSaid (lineWord (now .line)) q (now .next) → Walks o el start a
-          go (fine k) eq e = let z : _≡_ {A = ℕ} 0 1 = cc in absurd (omega arith)
-          go (bad f) eq e =
-              let i : number ≡ refusalNumber (fault f) = cc in
-              subst (λ q. Walks q el start a) (sym (steps-bad (now .line) (now .rest) (passed + 2) (m .state) f eq) ∙ here) (ea ∙ ap (λ k. Outcome.Refuses k (passed + 2)) i)
+          go : (f : Form (List Line)) → onward ≡ f → a .outcome ≡ unlessBad (linesForm (passed + 2) f) number (passed + 2) → Answers e a
+          go (badLine j) ef ea = walk-bad j ef e a ea
+          go (formed ls) ef ea =
+              walk-formed ls ef e a (subst (λ ls. Walks (stepsᶜ (numbered (passed + 2) ls) (m .state)) e start a) (sym (now .all))
+              (refuse (lineKind (now .line) (m .state .scope .known)) refl (hr .is (now .line) (now .next) (now .stands))))
+            where
+              now : Step s (95 - passed) (passed + 2) (m .phase) at ls ef
+              now = walk-line s (95 - passed) (passed + 2) (m .phase) at ls ef h
 
-      module _ (le : passed < 95) (lw : length words ≡ 96) (lc : length codes ≡ 96) (code kind next : ℕ) (er : r ≡ LineKind.Is code kind next) where
+              refuse : (q : Checked Kind) → lineKind (now .line) (m .state .scope .known) ≡ q → r ≡ lineSaid (lineWord (now .line)) q (now .next)
+                  → Walks (stepsᶜ (numbered (passed + 2) (now .line ∷ now .rest)) (m .state)) e start a
+              refuse (fine k) eq i = let z : _≡_ {A = ℕ} 0 1 = cc in absurd (omega arith)
+              refuse (bad f) eq i =
+                  let j : number ≡ refusalNumber (fault f) = cc in
+                  subst (λ q. Walks q e start a) (sym (steps-bad (now .line) (now .rest) (passed + 2) (m .state) f eq)) (ea ∙ ap (λ k. Outcome.Refuses k (passed + 2)) j)
+
+      module _ (lw : length words ≡ 96) (lc : length codes ≡ 96) (code kind next : ℕ) (er : r ≡ LineKind.Is code kind next) where
         stands-after : (l : Line) → IsLine l → (k : Kind) → lineKind l (m .state .scope .known) ≡ fine k
             → Stands (set words (passed + 1) (codeOf (lineWord l))) (set codes (passed + 1) (kindCode k)) (set newest (codeOf (lineWord l) % 512) (passed + 1)) (passed + 1) (stepped (passed + 2) (m .state) l k .scope .known)
         unfolding lineKind
-        stands-after (let-line w x) hl k e = stands-given words codes newest passed (m .state .scope .known) (m .stands) lw lc le w (hl .0 .0) k (passed + 2)
-        stands-after (show-line w) hl k e = stands-shown words codes newest passed (m .state .scope .known) (m .stands) lw lc le w (hl .0) k (go (lookup w (m .state .scope .known)) e)
+        stands-after (let-line w x) hl k e = stands-given words codes newest passed (m .state .scope .known) (m .stands) lw lc le w (hl .0 .1 .0) k (passed + 2)
+        stands-after (show-line w) hl k e = stands-shown words codes newest passed (m .state .scope .known) (m .stands) lw lc le w (hl .0 .1 .0) k (go (lookup w (m .state .scope .known)) e)
           where
             go : (q : Option Kind) → known? name q ≡ fine k → q ≡ some k
             go none e = let z : _≡_ {A = ℕ} 0 1 = cc in absurd (omega arith)
             go (some j) e = let i : j ≡ k = cc in ap (λ j. some j) i
 
-        goes-after : now .next ≡ next → readLines (95 - (passed + 1)) (passed + 1 + 2) (after (m .phase) (now .line)) s next ≡ formed (now .rest)
-        goes-after en =
-            let p = after (m .phase) (now .line) in
-            let ef : 95 - (passed + 1) ≡ now .fewer = omega (arith, now .one-less) in
-            let ei : passed + 1 + 2 ≡ passed + 2 + 1 = omega arith in
-            ap (λ j. readLines j (passed + 1 + 2) p s next) ef ∙ ap (λ i. readLines (now .fewer) i p s next) ei ∙ ap (readLines (now .fewer) (passed + 2 + 1) p s) (sym en) ∙ now .goes-on
+        whole-after : (l : Line) → readLine s at ≡ got l next
+            → readLines 95 2 0 s start ≡ (readLines (95 - (passed + 1)) (passed + 1 + 2) (after (m .phase) l) s next thenᶠ (λ ls. formed (m .before (l ∷ ls))))
+        unfolding linesStep
+        whole-after l el =
+            let p = after (m .phase) l in
+            let ek : 95 - passed - 1 ≡ 95 - (passed + 1) = omega arith in
+            let ei : passed + 2 + 1 ≡ passed + 1 + 2 = omega arith in
+            let there = readLines (95 - (passed + 1)) (passed + 1 + 2) p s next in
+            came (there thenᶠ (λ ls. formed (l ∷ ls))) (
+            lines-step s at (passed + 2) (m .phase) (95 - passed) (omega arith) h
+            ∙ ap (λ o. linesStep false (passed + 2) o (λ l. readLines (95 - passed - 1) (passed + 2 + 1) (after (m .phase) l) s)) el
+            ∙ ap (λ k. readLines k (passed + 2 + 1) p s next thenᶠ (λ ls. formed (l ∷ ls))) ek
+            ∙ ap (λ i. readLines (95 - (passed + 1)) i p s next thenᶠ (λ ls. formed (l ∷ ls))) ei)
+            ∙ twice there (λ ls. l ∷ ls) (m .before)
 
-        rest-after : (k : Kind) → lineKind (now .line) (m .state .scope .known) ≡ fine k → stepsᶜ (numbered (passed + 1 + 2) (now .rest)) (stepped (passed + 2) (m .state) (now .line) k) ≡ o
-        rest-after k e =
-            let ei : passed + 1 + 2 ≡ suc (passed + 2) = omega arith in
-            ap (λ i. stepsᶜ (numbered i (now .rest)) (stepped (passed + 2) (m .state) (now .line) k)) ei ∙ sym (steps-fine (now .line) (now .rest) (passed + 2) (m .state) k e) ∙ here
+        walked-after : (l : Line) (k : Kind) → lineKind l (m .state .scope .known) ≡ fine k → (ls : List Line)
+            → stepsᶜ (numbered 2 (m .before (l ∷ ls))) startᶜ ≡ stepsᶜ (numbered (passed + 1 + 2) ls) (stepped (passed + 2) (m .state) l k)
+        walked-after l k e ls =
+            let ei : suc (passed + 2) ≡ passed + 1 + 2 = omega arith in
+            m .walked (l ∷ ls) ∙ steps-fine l ls (passed + 2) (m .state) k e ∙ ap (λ i. stepsᶜ (numbered i ls) (stepped (passed + 2) (m .state) l k)) ei
 
-        pub walk-on : (later : List ℕ) → later ≡ set newest (code % 512) (passed + 1) → Midway s all next (passed + 1) (set words (passed + 1) code) (set codes (passed + 1) kind) later o
+        pub walk-on : (later : List ℕ) → later ≡ set newest (code % 512) (passed + 1) → Midway s start next (passed + 1) (set words (passed + 1) code) (set codes (passed + 1) kind) later
         unfolding lineSaid
-        walk-on later el = go (lineKind (now .line) (m .state .scope .known)) refl said
+        walk-on later et = let (l, el) = hr .read code kind next er in go l el (lineKind l (m .state .scope .known)) refl (hr .is l next el)
           where
-            go : (q : Checked Kind) → lineKind (now .line) (m .state .scope .known) ≡ q → r ≡ lineSaid (lineWord (now .line)) q (now .next)
-                → Midway s all next (passed + 1) (set words (passed + 1) code) (set codes (passed + 1) kind) later o
-            go (fine k) eq e =
-                let ec : codeOf (lineWord (now .line)) ≡ code = cc in
+            go : (l : Line) → readLine s at ≡ got l next → (q : Checked Kind) → lineKind l (m .state .scope .known) ≡ q → r ≡ lineSaid (lineWord l) q next
+                → Midway s start next (passed + 1) (set words (passed + 1) code) (set codes (passed + 1) kind) later
+            go l el (fine k) eq e =
+                let ec : codeOf (lineWord l) ≡ code = cc in
                 let ek : kindCode k ≡ kind = cc in
-                let en : now .next ≡ next = cc in
-                let line : IsLine (now .line) = holds-at (LineStands s at) (readLine s at) (now .line) (now .next) (line-sound s at) (now .stands) .1 in
+                let line : IsLine l = holds-at (LineStands s at) (readLine s at) l next (line-sound s at) el .1 in
                 record {
-                  lines = now .rest;
-                  phase = after (m .phase) (now .line);
-                  state = stepped (passed + 2) (m .state) (now .line) k;
-                  count = let i = ap length (now .all) in let c = m .count in omega arith;
-                  goes = goes-after en;
-                  rest = rest-after k eq;
-                  stands = rw (el, ← ec, ← ek) (stands-after (now .line) line k eq);
-                  laid = rw (← ek) (laid-after codes (passed + 1) (omega arith) (passed + 2) (m .state) (now .line) k (m .laid));
+                  before = λ ls. m .before (l ∷ ls);
+                  phase = after (m .phase) l;
+                  state = stepped (passed + 2) (m .state) l k;
+                  whole = whole-after l el;
+                  walked = walked-after l k eq;
+                  stands = rw (et, ← ec, ← ek) (stands-after l line k eq);
+                  laid = rw (← ek) (laid-after codes (passed + 1) (omega arith) (passed + 2) (m .state) l k (m .laid));
                 }
-            go (bad f) eq e = let z : _≡_ {A = ℕ} 0 1 = cc in absurd (omega arith)
+            go l el (bad f) eq e = let z : _≡_ {A = ℕ} 0 1 = cc in absurd (omega arith)
+
+-- ---- the form pass after a refusal
+
+module _ (o : Form (List Line)) (from : ℕ) (f : FormRead) (ef : f ≡ linesForm from o) (n number line : ℕ) (r : Outcome) where
+  pub unless-bad : f ≡ FormRead.Bad n → r ≡ Outcome.Refuses 3 n → r ≡ unlessBad (linesForm from o) number line
+  unfolding unlessBad
+  unless-bad h er = er ∙ ap (λ f. unlessBad f number line) (sym h ∙ ef)
+
+  pub unless-fine : f ≡ FormRead.Fine n → r ≡ Outcome.Refuses number line → r ≡ unlessBad (linesForm from o) number line
+  unfolding unlessBad
+  unless-fine h er = er ∙ ap (λ f. unlessBad f number line) (sym h ∙ ef)
 
 -- ---- the whole sheet: q is what line 1 came to
 
 module _ (s : List ℕ) (q : FirstLine) (eq : q ≡ firstOf (readHead s)) (a : Admission) where
+  -- the sheet by its line 1 and its lines
+  abbrev Answered : Got Head → Type 0
+  Answered o = Admits s (ofForm (sheetStep o (readLines 95 2 0 s))) a
+
+  by-head : ((o : Got Head) → firstOf o ≡ q → Answered o) → Admits s (ofForm (readSheet s)) a
+  unfolding readSheet
+  by-head g = g (readHead s) (sym eq)
+
   pub admit-no-head : q ≡ FirstLine.Bad → a .outcome ≡ Outcome.Refuses 3 1 → Admits s (ofForm (readSheet s)) a
-  unfolding readSheet sheetStep firstOf firstIn Admits
-  admit-no-head h ea = go (readHead s) (sym eq ∙ h)
+  unfolding sheetStep firstOf firstIn Admits
+  admit-no-head h ea = by-head go
     where
-      never : (b : Bool) (x : Head) (m : ℕ) → firstIn b x m ≡ FirstLine.Bad → ⊥
-      never true x m e = let z : _≡_ {A = ℕ} 0 1 = cc in omega arith
-      never false x m e = let z : _≡_ {A = ℕ} 0 1 = cc in omega arith
+      never : {C : Type 0} (b : Bool) (d : Ellipsoid) (m : ℕ) → firstIn b d m ≡ q → C
+      never true d m e = let z : _≡_ {A = ℕ} 0 1 = cc in absurd (omega arith)
+      never false d m e = let z : _≡_ {A = ℕ} 0 1 = cc in absurd (omega arith)
 
-      go : (o : Got Head) → firstOf o ≡ FirstLine.Bad → Admits s (ofForm (sheetStep o (readLines 95 2 0 s))) a
+      go : (o : Got Head) → firstOf o ≡ q → Answered o
       go noGot e = ea
-      go (got x m) e = absurd (never (ranged x) x m e)
+      go (got x m) e = never (ranged x) (surface x) m e
 
-  -- line 1 says x, line 2 stands at m, and f is what the form pass over the lines from there answered
-  module _ (m : ℕ) (f : FormRead) (ef : f ≡ linesForm 2 (readLines 95 2 0 s m)) where
-    abbrev WholeSheet : Head → Form (List Line) → Type 0
-    WholeSheet x o = Admits s (ofForm (o thenᶠ (λ ls. formed (record { head = x; lines = ls })))) a
+  pub admit-out-of-range : (m : ℕ) → q ≡ FirstLine.OutOfRange m → a .outcome ≡ unlessBad (linesForm 2 (readLines 95 2 0 s m)) 4 1 → Admits s (ofForm (readSheet s)) a
+  unfolding sheetStep firstOf firstIn Admits unlessBad linesForm _thenᶠ_
+  admit-out-of-range m h ea = by-head go
+    where
+      by-lines : (x : Head) (f : Form (List Line)) → ranged x ≡ false → a .outcome ≡ unlessBad (linesForm 2 f) 4 1 → Admits s (ofForm (f thenᶠ (λ ls. formed (record { head = x; lines = ls })))) a
+      by-lines x (badLine j) er e = e
+      by-lines x (formed ls) er e = rw er e
 
-    whole : (x : Head) → readHead s ≡ got x m → WholeSheet x (readLines 95 2 0 s m) → Admits s (ofForm (readSheet s)) a
-    unfolding readSheet sheetStep
-    whole x eh w = subst (λ o. Admits s (ofForm (sheetStep o (readLines 95 2 0 s))) a) (sym eh) w
+      in-it : (b : Bool) (x : Head) (k : ℕ) → ranged x ≡ b → firstIn b (surface x) k ≡ q → Answered (got x k)
+      in-it true x k er e = let z : _≡_ {A = ℕ} 0 1 = cc in absurd (omega arith)
+      in-it false x k er e = let i : m ≡ k = cc in by-lines x (readLines 95 2 0 s k) er (ea ∙ ap (λ k. unlessBad (linesForm 2 (readLines 95 2 0 s k)) 4 1) i)
 
-    bad-lines : (x : Head) → readHead s ≡ got x m → (j : ℕ) → f ≡ FormRead.Bad j → a .outcome ≡ Outcome.Refuses 3 j → Admits s (ofForm (readSheet s)) a
-    unfolding linesForm Admits _thenᶠ_
-    bad-lines x eh j h ea = whole x eh (go (readLines 95 2 0 s m) (sym ef ∙ h))
-      where
-        go : (o : Form (List Line)) → linesForm 2 o ≡ FormRead.Bad j → WholeSheet x o
-        go (formed ls) e = let z : _≡_ {A = ℕ} 0 1 = cc in absurd (omega arith)
-        go (badLine i) e = let k : j ≡ i = cc in ea ∙ ap (λ y. Outcome.Refuses 3 y) k
+      go : (o : Got Head) → firstOf o ≡ q → Answered o
+      go noGot e = let z : _≡_ {A = ℕ} 0 1 = cc in absurd (omega arith)
+      go (got x k) e = in-it (ranged x) x k refl e
 
-    fine-lines : (x : Head) → readHead s ≡ got x m → (n : ℕ) → f ≡ FormRead.Fine n
-        → ((ls : List Line) → readLines 95 2 0 s m ≡ formed ls → n ≡ length ls + 1 → Admits s (ofRange (ranged x) (record { head = x; lines = ls })) a) → Admits s (ofForm (readSheet s)) a
-    unfolding linesForm _thenᶠ_
-    fine-lines x eh n h g = whole x eh (go (readLines 95 2 0 s m) refl (sym ef ∙ h))
-      where
-        go : (o : Form (List Line)) → readLines 95 2 0 s m ≡ o → linesForm 2 o ≡ FormRead.Fine n → WholeSheet x o
-        go (formed ls) eo e = let i : 2 - 1 + length ls ≡ n = cc in g ls eo (omega arith)
-        go (badLine i) eo e = let z : _≡_ {A = ℕ} 0 1 = cc in absurd (omega arith)
+  pub admit-in-range : (d : Ellipsoid) (m : ℕ) → q ≡ FirstLine.Is d m → LinesWalk (readLines 95 2 0 s m) d m a → Admits s (ofForm (readSheet s)) a
+  unfolding sheetStep firstOf firstIn Admits LinesWalk Walks walk _thenᶠ_
+  admit-in-range d m h w = by-head go
+    where
+      by-walk : (c : Sheet) → readLines 95 2 0 s m ≡ formed (c .lines) → (o : Walked) → Walks o (surface (c .head)) m a → Admits s (ofWalked c o) a
+      by-walk c el (passes cs) t = (m, el, t)
+      by-walk c el (refuses x j) t = t
 
-    -- ---- a number of line 1 is out of range
-    module _ (h : q ≡ FirstLine.OutOfRange m) where
-      out-head : (x : Head) × (readHead s ≡ got x m) × (ranged x ≡ false)
-      unfolding firstOf firstIn
-      out-head = go (readHead s) refl (sym eq ∙ h)
-        where
-          in-it : (b : Bool) (x : Head) (k : ℕ) → ranged x ≡ b → readHead s ≡ got x k → firstIn b x k ≡ FirstLine.OutOfRange m → (x : Head) × (readHead s ≡ got x m) × (ranged x ≡ false)
-          in-it true x k er eo e = let z : _≡_ {A = ℕ} 0 1 = cc in absurd (omega arith)
-          in-it false x k er eo e = let i : k ≡ m = cc in (x, eo ∙ ap (got x) i, er)
+      by-lines : (x : Head) (f : Form (List Line)) → readLines 95 2 0 s m ≡ f → ranged x ≡ true → LinesWalk f (surface x) m a → Admits s (ofForm (f thenᶠ (λ ls. formed (record { head = x; lines = ls })))) a
+      by-lines x (badLine j) ef er t = t
+      by-lines x (formed ls) ef er t = rw er (by-walk (record { head = x; lines = ls }) ef (stepsᶜ (numbered 2 ls) startᶜ) t)
 
-          go : (o : Got Head) → readHead s ≡ o → firstOf o ≡ FirstLine.OutOfRange m → (x : Head) × (readHead s ≡ got x m) × (ranged x ≡ false)
-          go noGot eo e = let z : _≡_ {A = ℕ} 0 1 = cc in absurd (omega arith)
-          go (got x k) eo e = in-it (ranged x) x k refl eo e
+      in-it : (b : Bool) (x : Head) (k : ℕ) → ranged x ≡ b → firstIn b (surface x) k ≡ q → Answered (got x k)
+      in-it true x k er e =
+          let i : m ≡ k = cc in
+          let j : d ≡ surface x = cc in
+          subst (λ k. Answered (got x k)) i (by-lines x (readLines 95 2 0 s m) refl er (subst (λ d. LinesWalk (readLines 95 2 0 s m) d m a) j w))
+      in-it false x k er e = let z : _≡_ {A = ℕ} 0 1 = cc in absurd (omega arith)
 
-      pub out-bad-form : (j : ℕ) → f ≡ FormRead.Bad j → a .outcome ≡ Outcome.Refuses 3 j → Admits s (ofForm (readSheet s)) a
-      out-bad-form = bad-lines (out-head .0) (out-head .1)
-
-      pub admit-out-of-range : (n : ℕ) → f ≡ FormRead.Fine n → a .outcome ≡ Outcome.Refuses 4 1 → Admits s (ofForm (readSheet s)) a
-      unfolding Admits
-      admit-out-of-range n hf ea = fine-lines (out-head .0) (out-head .1) n hf (λ ls el en. subst (λ b. Admits s (ofRange b (record { head = out-head .0; lines = ls })) a) (sym (out-head .2)) ea)
-
-    -- ---- line 1 is in range
-    module _ (d : Ellipsoid) (h : q ≡ FirstLine.Is d m) where
-      in-head : (x : Head) × (readHead s ≡ got x m) × (ranged x ≡ true) × (d ≡ surface x)
-      unfolding firstOf firstIn
-      in-head = go (readHead s) refl (sym eq ∙ h)
-        where
-          in-it : (b : Bool) (x : Head) (k : ℕ) → ranged x ≡ b → readHead s ≡ got x k → firstIn b x k ≡ FirstLine.Is d m → (x : Head) × (readHead s ≡ got x m) × (ranged x ≡ true) × (d ≡ surface x)
-          in-it true x k er eo e = let i : k ≡ m = cc in let j : d ≡ surface x = cc in (x, eo ∙ ap (got x) i, er, j)
-          in-it false x k er eo e = let z : _≡_ {A = ℕ} 0 1 = cc in absurd (omega arith)
-
-          go : (o : Got Head) → readHead s ≡ o → firstOf o ≡ FirstLine.Is d m → (x : Head) × (readHead s ≡ got x m) × (ranged x ≡ true) × (d ≡ surface x)
-          go noGot eo e = let z : _≡_ {A = ℕ} 0 1 = cc in absurd (omega arith)
-          go (got x k) eo e = in-it (ranged x) x k refl eo e
-
-      pub in-bad-form : (j : ℕ) → f ≡ FormRead.Bad j → a .outcome ≡ Outcome.Refuses 3 j → Admits s (ofForm (readSheet s)) a
-      in-bad-form = bad-lines (in-head .0) (in-head .1)
-
-      pub admit-in-range : (n : ℕ) → f ≡ FormRead.Fine n → LinesWalk s m n d a → Admits s (ofForm (readSheet s)) a
-      unfolding Admits Walks walk
-      admit-in-range n hf w =
-          fine-lines (in-head .0) (in-head .1) n hf (λ ls el en.
-          let c : Sheet = record { head = in-head .0; lines = ls } in
-          subst (λ b. Admits s (ofRange b c) a) (sym (in-head .2)) (by-walk c el (walk c) (subst (λ e. Walks (walk c) e m a) (in-head .3) (w .is ls el en))))
-        where
-          by-walk : (c : Sheet) → readLines 95 2 0 s m ≡ formed (c .lines) → (o : Walked) → Walks o (surface (c .head)) m a → Admits s (ofWalked c o) a
-          by-walk c el (passes cs) t = (m, el, t)
-          by-walk c el (refuses x j) t = t
-
--- the form pass counts at most 96 lines
-pub few-formed : (s : List ℕ) (m : ℕ) (f : FormRead) → f ≡ linesForm 2 (readLines 95 2 0 s m) → (n : ℕ) → f ≡ FormRead.Fine n → n ≤ 96
-unfolding linesForm
-few-formed s m f ef n h = go (readLines 95 2 0 s m) refl (sym ef ∙ h)
-  where
-    go : (o : Form (List Line)) → readLines 95 2 0 s m ≡ o → linesForm 2 o ≡ FormRead.Fine n → n ≤ 96
-    go (formed ls) eo e = let i : 2 - 1 + length ls ≡ n = cc in let l = walk-few s 95 2 0 m ls eo in omega arith
-    go (badLine i) eo e = let z : _≡_ {A = ℕ} 0 1 = cc in absurd (omega arith)
+      go : (o : Got Head) → firstOf o ≡ q → Answered o
+      go noGot e = let z : _≡_ {A = ℕ} 0 1 = cc in absurd (omega arith)
+      go (got x k) e = in-it (ranged x) x k refl e

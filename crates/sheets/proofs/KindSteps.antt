@@ -1,15 +1,15 @@
 -- The kind of an expression, a step at a time: a law for each way out of `kind_at` and `gather`. Assumes nothing.
 use Prim.Native.Nat.{ℕ, zero, suc, _+_, _-_, _*_, _^_, _<_, _≤_}
 use native.Mathlib.Omega.{arith}
-use mathlib.Core.Path.{_≡_, refl, ap, _∙_}
+use mathlib.Core.Path.{_≡_, refl, sym, ap, _∙_}
 use mathlib.Core.List.{List, _∷_}
 use mathlib.Core.Option.{Option, none, some}
 use lib.ListN.{getD}
 use Rattle.sheets.specs.Text.{Word}
-use Rattle.sheets.specs.Trees.{Expr, Exprs, word-expr, num-expr, nil, _▸_}
+use Rattle.sheets.specs.Trees.{Expr, Exprs, word-expr, num-expr, form-expr, nil, _▸_}
 use Rattle.sheets.specs.Grammar.{IsWord, IsExpr}
 use Rattle.sheets.specs.code.Codes.{codeOf}
-use Rattle.sheets.specs.code.Reader.{got, readWord, readNum, readArgs, readExpr}
+use Rattle.sheets.specs.code.Reader.{got, _then_, readWord, readNum, readArgs, readExpr}
 use Rattle.sheets.specs.code.Views.{place, coded, counted}
 use Rattle.sheets.specs.Kinds.{Kind, kindCode}
 use Rattle.sheets.specs.Table.{table}
@@ -22,9 +22,10 @@ use Rattle.sheets.specs.declared.bytes.WordRead.{WordRead}
 use Rattle.sheets.specs.declared.num.Numeral.{Numeral}
 use Rattle.sheets.specs.declared.num.NumRead.{NumRead}
 use Rattle.sheets.specs.declared.expr.Read.{Read}
-use Rattle.sheets.proofs.ReaderLaws.{close-read}
+use Rattle.sheets.proofs.ReaderLaws.{then-got, close-read}
 use Rattle.sheets.proofs.TokenSteps.{grow, cap}
-use Rattle.sheets.proofs.ExprSteps.{not-close, args-none, args-other, expr-bad, name-read, num-read}
+use Rattle.sheets.proofs.ExprSteps.{not-close, args-none, args-other, args-step, expr-step, expr-bad, name-read, num-read}
+use Rattle.sheets.proofs.Viewed.{coded-got}
 use Rattle.sheets.proofs.Inverse.{not-read, arg-read, form-read}
 use Rattle.sheets.proofs.Spans.{holds-at}
 use Rattle.sheets.proofs.ExprLaws.{ExprAt, expr-sound}
@@ -61,11 +62,20 @@ said-some x o f n e h = let (k, eo, ek) = some-found o f e h in rw eo (ap (λ i.
 
 -- ---- an expression
 
-pub has-none : (s : List ℕ) (at depth : ℕ) (ps : Known Kind) (r : KindRead) → Read.Bad ≡ place (readExpr depth s at) → ExprHas s at depth ps r
-has-none s at depth ps r h = record { is = λ x n g. not-read (readExpr depth s at) x n h g }
+-- a refusal is no kind
+not-is : {C : Type 0} (number k n : ℕ) → KindRead.Refused number ≡ KindRead.Is k n → C
+not-is number k n e = let z : _≡_ {A = ℕ} 0 1 = cc in absurd (omega arith)
+
+pub has-none : (s : List ℕ) (at depth : ℕ) (ps : Known Kind) (number : ℕ) → Read.Bad ≡ place (readExpr depth s at) → ExprHas s at depth ps (KindRead.Refused number)
+has-none s at depth ps number h = record { is = λ x n g. not-read (readExpr depth s at) x n h g; read = λ k n e. not-is number k n e }
+
+said-end : (o : Checked Kind) (n k m : ℕ) → kindSaid o n ≡ KindRead.Is k m → n ≡ m
+unfolding kindSaid
+said-end (fine j) n k m e = cc
+said-end (bad f) n k m e = not-is (refusalNumber (fault f)) k m e
 
 has-got : (s : List ℕ) (at depth : ℕ) (ps : Known Kind) (r : KindRead) (x : Expr) (n : ℕ) → readExpr depth s at ≡ got x n → r ≡ kindSaid (kindOfExpr x ps) n → ExprHas s at depth ps r
-has-got s at depth ps r x n h g = record { is = λ y m k. cc }
+has-got s at depth ps r x n h g = record { is = λ y m k. cc; read = λ k m e. (x, h ∙ ap (got x) (said-end (kindOfExpr x ps) n k m (sym g ∙ e))) }
 
 -- the words of an expression that was read are words
 leaf-word : (s : List ℕ) (at depth : ℕ) (w : Word) (n : ℕ) → readExpr depth s at ≡ got (word-expr w) n → IsWord w
@@ -98,24 +108,26 @@ module _ (s : List ℕ) (at b : ℕ) (eb : b ≡ getD s at 0) (depth : ℕ) (ps 
     unfolding kindOfExpr kindSaid
     num-has hr v ev y hv = let (q, eq, ey) = num-read s at b eb depth h r er hr v ev y hv in has-got s at depth ps _ (num-expr q) (y .end) eq refl
 
-    pub leaf-none : (q : KindRead) → r ≡ WordRead.Not → (v : NumRead) → v ≡ counted (readNum s at) → v ≡ NumRead.Not → ExprHas s at depth ps q
-    leaf-none q hr v ev hv = has-none s at depth ps q (expr-bad s at b eb depth h r er hr v ev hv)
+    pub leaf-none : (number : ℕ) → r ≡ WordRead.Not → (v : NumRead) → v ≡ counted (readNum s at) → v ≡ NumRead.Not → ExprHas s at depth ps (KindRead.Refused number)
+    leaf-none number hr v ev hv = has-none s at depth ps number (expr-bad s at b eb depth h r er hr v ev hv)
 
   -- a bracket: g is what its arguments came to
   module _ (h : b ≡ 40) (d : depth ≡ 0 → ⊥) (r : WordRead) (er : r ≡ coded (readWord s (at + 1))) (code m : ℕ) (hr : r ≡ WordRead.Is code m) (g : KeyRead) (hg : ArgsHave s m (depth - 1) 5 0 ps g) where
     form-has : (q : KindRead)
         → ((w : Word) → IsWord w → code ≡ codeOf w → (o : Checked (List Kind)) (n : ℕ) → g ≡ keySaid 0 o n → q ≡ kindSaid (thenᶜ o (λ js. known? kind (findKind table w js))) n)
+        → ((k n : ℕ) → q ≡ KindRead.Is k n → (x : Expr) × (readExpr depth s at ≡ got x n))
         → ExprHas s at depth ps q
     unfolding kindOfExpr
-    form-has q f = record {
+    form-has q f t = record {
       is = λ x n e.
           let (w, xs, hw, ec, ea, ex) = form-read s at b eb depth h d r er code m hr x n e in
           rw ex (f w hw ec (kindsOfExprs xs ps) n (hg .is xs n ea));
+      read = t;
     }
 
     pub form-refused : (number : ℕ) → g ≡ KeyRead.Refused number → ExprHas s at depth ps (KindRead.Refused number)
     unfolding keySaid kindSaid
-    form-refused number eg = form-has _ go
+    form-refused number eg = form-has _ go (λ k n e. not-is number k n e)
       where
         go : (w : Word) → IsWord w → code ≡ codeOf w → (o : Checked (List Kind)) (n : ℕ) → g ≡ keySaid 0 o n → KindRead.Refused number ≡ kindSaid (thenᶜ o (λ js. known? kind (findKind table w js))) n
         go w hw ec (fine ks) n p = let z : _≡_ {A = ℕ} 0 1 = cc in absurd (omega arith)
@@ -135,14 +147,26 @@ module _ (s : List ℕ) (at b : ℕ) (eb : b ≡ getD s at 0) (depth : ℕ) (ps 
       not-bad x n p = let z : _≡_ {A = ℕ} 0 1 = cc in absurd (omega arith)
 
       pub form-no-row : f ≡ 255 → ExprHas s at depth ps (KindRead.Refused 6)
-      form-no-row e = form-has _ go
+      form-no-row e = form-has _ go (λ k n e. not-is 6 k n e)
         where
           go : (w : Word) → IsWord w → code ≡ codeOf w → (o : Checked (List Kind)) (n : ℕ) → g ≡ keySaid 0 o n → KindRead.Refused 6 ≡ kindSaid (thenᶜ o (λ js. known? kind (findKind table w js))) n
           go w hw ec (fine ks) n p = said-none kind (findKind table w ks) f n (row-is w hw ec ks n p .0) e
           go w hw ec (bad x) n p = not-bad x n p
 
+      all-read : (k n : ℕ) → KindRead.Is f end ≡ KindRead.Is k n → (x : Expr) × (readExpr depth s at ≡ got x n)
+      all-read k n e =
+          let (xs, ea) = hg .read key end eg in
+          let (w, ew, ek) = coded-got (readWord s (at + 1)) r er code m hr in
+          let i : end ≡ n = cc in (
+            form-expr w xs,
+            expr-step s at b eb depth h d
+                ∙ then-got (readWord s (at + 1)) (λ w n. readArgs (readExpr (depth - 1) s) 5 s n then (λ xs m. got (form-expr w xs) m)) w m ew
+                ∙ then-got (readArgs (readExpr (depth - 1) s) 5 s m) (λ xs m. got (form-expr w xs) m) xs end ea
+                ∙ ap (got (form-expr w xs)) i,
+          )
+
       pub form-row : (f ≡ 255 → ⊥) → ExprHas s at depth ps (KindRead.Is f end)
-      form-row e = form-has _ go
+      form-row e = form-has _ go all-read
         where
           go : (w : Word) → IsWord w → code ≡ codeOf w → (o : Checked (List Kind)) (n : ℕ) → g ≡ keySaid 0 o n → KindRead.Is f end ≡ kindSaid (thenᶜ o (λ js. known? kind (findKind table w js))) n
           go w hw ec (fine ks) n p = let (ef, en) = row-is w hw ec ks n p in ap (λ m. KindRead.Is f m) en ∙ said-some kind (findKind table w ks) f n ef e
@@ -150,8 +174,11 @@ module _ (s : List ℕ) (at b : ℕ) (eb : b ≡ getD s at 0) (depth : ℕ) (ps 
 
 -- ---- the arguments
 
-have-none : (s : List ℕ) (at depth left key : ℕ) (ps : Known Kind) (r : KeyRead) → Read.Bad ≡ place (readArgs (readExpr depth s) left s at) → ArgsHave s at depth left key ps r
-have-none s at depth left key ps r h = record { is = λ xs n g. not-read (readArgs (readExpr depth s) left s at) xs n h g }
+not-key : {C : Type 0} (number k n : ℕ) → KeyRead.Refused number ≡ KeyRead.Is k n → C
+not-key number k n e = let z : _≡_ {A = ℕ} 0 1 = cc in absurd (omega arith)
+
+have-none : (s : List ℕ) (at depth left key : ℕ) (ps : Known Kind) (number : ℕ) → Read.Bad ≡ place (readArgs (readExpr depth s) left s at) → ArgsHave s at depth left key ps (KeyRead.Refused number)
+have-none s at depth left key ps number h = record { is = λ xs n g. not-read (readArgs (readExpr depth s) left s at) xs n h g; read = λ k n e. not-key number k n e }
 
 module _ (s : List ℕ) (at b : ℕ) (eb : b ≡ getD s at 0) (depth left key : ℕ) (ps : Known Kind) where
   pub have-closed : b ≡ 41 → ArgsHave s at depth left key ps (KeyRead.Is key (at + 1))
@@ -162,13 +189,14 @@ module _ (s : List ℕ) (at b : ℕ) (eb : b ≡ getD s at 0) (depth left key : 
         let i : xs ≡ nil = cc in
         let j : n ≡ at + 1 = cc in
         rw (i, j) refl;
+    read = λ k n e. let i : at + 1 ≡ n = cc in (nil, close-read (readExpr depth s) s at b eb left h ∙ ap (got nil) i);
   }
 
-  pub have-sixth : (r : KeyRead) → b ≡ 32 → left ≡ 0 → ArgsHave s at depth left key ps r
-  have-sixth r h l = have-none s at depth left key ps r (args-none (readExpr depth s) s at b eb left (not-close b h) l)
+  pub have-sixth : (number : ℕ) → b ≡ 32 → left ≡ 0 → ArgsHave s at depth left key ps (KeyRead.Refused number)
+  have-sixth number h l = have-none s at depth left key ps number (args-none (readExpr depth s) s at b eb left (not-close b h) l)
 
-  pub have-other : (r : KeyRead) → (b ≡ 32 → ⊥) → (b ≡ 41 → ⊥) → ArgsHave s at depth left key ps r
-  have-other r h c = have-none s at depth left key ps r (args-other (readExpr depth s) s at b eb left c h)
+  pub have-other : (number : ℕ) → (b ≡ 32 → ⊥) → (b ≡ 41 → ⊥) → ArgsHave s at depth left key ps (KeyRead.Refused number)
+  have-other number h c = have-none s at depth left key ps number (args-other (readExpr depth s) s at b eb left c h)
 
   -- r is what an argument came to
   module _ (h : b ≡ 32) (l : left ≡ 0 → ⊥) (r : KindRead) (hr : ExprHas s (at + 1) depth ps r) where
@@ -182,6 +210,7 @@ module _ (s : List ℕ) (at b : ℕ) (eb : b ≡ getD s at 0) (depth left key : 
       is = λ xs n e.
           let (x, m, ys, ex, ey, exs) = more-read xs n e in
           rw exs (go (kindOfExpr x ps) m (kindsOfExprs ys ps) n (hr .is x m ex));
+      read = λ k n e. not-key number k n e;
     }
       where
         go : (o : Checked Kind) (m : ℕ) (p : Checked (List Kind)) (n : ℕ) → r ≡ kindSaid o m → KeyRead.Refused number ≡ keySaid key (thenᶜ o (λ j. thenᶜ p (λ js. fine (j ∷ js)))) n
@@ -194,6 +223,14 @@ module _ (s : List ℕ) (at b : ℕ) (eb : b ≡ getD s at 0) (depth left key : 
       is = λ xs n e.
           let (x, m, ys, ex, ey, exs) = more-read xs n e in
           rw exs (go (kindOfExpr x ps) m ys n ey (hr .is x m ex));
+      read = λ j n e.
+          let (x, ex) = hr .read k end er in
+          let (ys, ey) = hq .read j n e in (
+            x ▸ ys,
+            args-step (readExpr depth s) s at b eb left l h
+                ∙ then-got (readExpr depth s (at + 1)) (λ y n. readArgs (readExpr depth s) (left - 1) s n then (λ ys m. got (y ▸ ys) m)) x end ex
+                ∙ then-got (readArgs (readExpr depth s) (left - 1) s end) (λ ys m. got (x ▸ ys) m) ys n ey,
+          );
     }
       where
         push : (j : Kind) → kindCode j ≡ k → (o : Checked (List Kind)) (n : ℕ) → keySaid (key * 16 + k + 1) o n ≡ keySaid key (thenᶜ o (λ js. fine (j ∷ js))) n

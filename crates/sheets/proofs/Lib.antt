@@ -5,7 +5,6 @@ pub mod ExprLaws
 pub mod CodeLaws
 pub mod PieceLaws
 pub mod LineLaws
-pub mod HeadLaws
 pub mod SheetLaws
 pub mod FormLaws
 pub mod NumLaws
@@ -61,6 +60,7 @@ pub mod OperandLaws
 pub mod LinePlaces
 pub mod EffectSteps
 pub mod KnownLaws
+pub mod RowSteps
 pub mod RunSteps
 pub mod AnswerSteps
 pub mod Computed

@@ -11,13 +11,12 @@ use lib.ListN.{length, take, drop, take-append-drop}
 use lib.Seq.{take-append-seam, length-take-le}
 use borrow.Author.Tests.{ne-eqb}
 use Rattle.sheets.specs.Text.{Word, ascii, _⌢_, lf}
-use Rattle.sheets.specs.Trees.{Num, Expr, Exprs, word-expr, num-expr, form-expr, nil, _▸_, Line, let-line, show-line, Head, wgs84, custom, Sheet}
-use Rattle.sheets.specs.Grammar.{Letter, Digit, Each, IsWord, IsNum, sign, point, printNum, print, printArgs, IsExpr, AreArgs, printHead, HeadParts, printLine, LineParts, printLines, AreLines, after, printSheet, IsSheet, Written, FirstBad, at-head, at-line, at-97}
+use Rattle.sheets.specs.Trees.{Num, Expr, Exprs, word-expr, num-expr, form-expr, nil, _▸_, Line, Head, Sheet}
+use Rattle.sheets.specs.Grammar.{Letter, Digit, Each, IsWord, IsNum, sign, point, printNum, print, printArgs, IsExpr, AreArgs, ended, IsEnded, headBracket, printHead, lineBracket, printLine, IsLine, printLines, AreLines, after, printSheet, IsSheet, Written, FirstBad, at-head, at-line, at-97}
 use Rattle.sheets.specs.code.Reader.{got, readLine, readHead}
 use Rattle.sheets.proofs.Spans.{Spans, spans-drop, holds-at}
 use Rattle.sheets.proofs.CodeLaws.{word-chars}
-use Rattle.sheets.proofs.LineLaws.{LineStands, line-sound}
-use Rattle.sheets.proofs.HeadLaws.{HeadStands, head-sound}
+use Rattle.sheets.proofs.LineLaws.{HeadStands, head-sound, LineStands, line-sound}
 
 infixr 20 _also_
 -- how many bytes are LF
@@ -89,36 +88,20 @@ pub one-count : (s : List ℕ) → OneLF s → countLF s ≡ 1
 unfolding countLF
 one-count s h = let (t, e, z) = h in ap countLF e ∙ count-append t lf ∙ omega (arith, z)
 
-pub line-lf : (l : Line) → LineParts l → OneLF (printLine l)
-unfolding countLF
-line-lf (let-line w x) h = (
-  ascii "(let " ⌢ w ⌢ ascii " " ⌢ print x ⌢ ascii ")",
-  simp append-assoc,
-  (text "(let " refl also word-none w (h .0) also text " " refl also expr-none 11 x (h .1) also text ")" refl) .zero-lf,
-)
-line-lf (show-line w) h = (
-  ascii "(show " ⌢ w ⌢ ascii ")",
-  simp append-assoc,
-  (text "(show " refl also word-none w h also text ")" refl) .zero-lf,
-)
+ended-lf : (x : Expr) → IsEnded x → OneLF (ended x)
+ended-lf x h = (print x, refl, expr-none 12 x (h .0) .zero-lf)
 
-pub head-lf : (h : Head) → HeadParts h → OneLF (printHead h)
-unfolding countLF
-head-lf wgs84 h = (ascii "(ellipsoid wgs84)", refl, refl)
-head-lf (custom q r) h = (
-  ascii "(ellipsoid " ⌢ printNum q ⌢ ascii " " ⌢ printNum r ⌢ ascii ")",
-  simp append-assoc,
-  (text "(ellipsoid " refl also num-none q (h .0) also text " " refl also num-none r (h .1) also text ")" refl) .zero-lf,
-)
+pub line-lf : (l : Line) → IsLine l → OneLF (printLine l)
+line-lf l h = ended-lf (lineBracket l) h
 
 -- ---- a sheet holds as many as it has lines
 lines-lf : (p : ℕ) (ls : List Line) → AreLines p ls → countLF (printLines ls) ≡ length ls
 unfolding countLF
 lines-lf p [] h = refl
-lines-lf p (l ∷ ls) h = count-append (printLine l) (printLines ls) ∙ omega (arith, one-count (printLine l) (line-lf l (h .0 .0)), lines-lf (after p l) ls (h .2))
+lines-lf p (l ∷ ls) h = count-append (printLine l) (printLines ls) ∙ omega (arith, one-count (printLine l) (line-lf l (h .0)), lines-lf (after p l) ls (h .2))
 
 pub sheet-lf : (c : Sheet) → IsSheet c → countLF (printSheet c) ≡ length (c .lines) + 1
-sheet-lf c h = count-append (printHead (c .head)) (printLines (c .lines)) ∙ omega (arith, one-count (printHead (c .head)) (head-lf (c .head) (h .0 .0)), lines-lf 0 (c .lines) (h .1))
+sheet-lf c h = count-append (printHead (c .head)) (printLines (c .lines)) ∙ omega (arith, one-count (printHead (c .head)) (ended-lf (headBracket (c .head)) (h .0)), lines-lf 0 (c .lines) (h .1))
 
 -- ---- the number of a line
 
@@ -166,13 +149,13 @@ WholeLines t = (t ≡ []) ⊎ ((u : List ℕ) × (t ≡ u ⌢ lf))
 ends-lf : (u : List ℕ) (p : ℕ) (ls : List Line) → AreLines p ls → (v : List ℕ) × ((u ⌢ lf) ++ printLines ls ≡ v ⌢ lf)
 ends-lf u p [] h = (u, append-nil (u ⌢ lf))
 ends-lf u p (l ∷ ls) h =
-    let (t, e, z) = line-lf l (h .0 .0) in
+    let (t, e, z) = line-lf l (h .0) in
     let (v, g) = ends-lf ((u ⌢ lf) ++ t) (after p l) ls (h .2) in
     (v, sym (append-assoc (u ⌢ lf) (printLine l) (printLines ls)) ∙ ap (λ x. ((u ⌢ lf) ++ x) ++ printLines ls) e ∙ ap (λ x. x ++ printLines ls) (sym (append-assoc (u ⌢ lf) t lf)) ∙ g)
 
 sheet-ends : (c : Sheet) → IsSheet c → (v : List ℕ) × (printSheet c ≡ v ⌢ lf)
 sheet-ends c h =
-    let (t, e, z) = head-lf (c .head) (h .0 .0) in
+    let (t, e, z) = ended-lf (headBracket (c .head)) (h .0) in
     let (v, g) = ends-lf t 0 (c .lines) (h .1) in
     (v, ap (λ x. x ++ printLines (c .lines)) e ∙ g)
 
@@ -193,10 +176,10 @@ spans-count s x at n p h =
 pub line-step : (s : List ℕ) (l : Line) (at n : ℕ) → readLine s at ≡ got l n → countLF (take n s) ≡ countLF (take at s) + 1
 line-step s l at n e =
     let p = holds-at (LineStands s at) (readLine s at) l n (line-sound s at) e in
-    omega (arith, spans-count s (printLine l) at n (p .0) (p .2), one-count (printLine l) (line-lf l (p .1 .0)))
+    omega (arith, spans-count s (printLine l) at n (p .0) (p .2), one-count (printLine l) (line-lf l (p .1)))
 
 pub head-step : (s : List ℕ) (h : Head) (n : ℕ) → readHead s ≡ got h n → countLF (take n s) ≡ 1
 unfolding countLF
 head-step s h n e =
     let p = holds-at (HeadStands s) (readHead s) h n (head-sound s) e in
-    spans-count s (printHead h) 0 n (p .0) (p .2) ∙ omega (arith, one-count (printHead h) (head-lf h (p .1 .0)))
+    spans-count s (printHead h) 0 n (p .0) (p .2) ∙ omega (arith, one-count (printHead h) (ended-lf (headBracket h) (p .1)))

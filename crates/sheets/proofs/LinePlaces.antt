@@ -8,13 +8,12 @@ use lib.Dec.{eqb}
 use lib.ListN.{length, getD}
 use borrow.Author.Tests.{eq-eqb, eqb-true, eqb-false}
 use Rattle.sheets.specs.Text.{Word, lf}
-use Rattle.sheets.specs.Trees.{Expr, Line, let-line, show-line}
-use Rattle.sheets.specs.Grammar.{print, printLine}
+use Rattle.sheets.specs.Trees.{Expr, nil, _▸_, Line, let-line, show-line}
+use Rattle.sheets.specs.Grammar.{print, printArgs, lineBracket, printLine}
 use Rattle.sheets.specs.code.Reader.{got, readWord, readExpr, readLine}
 use Rattle.sheets.proofs.Spans.{Spans, spans-split, spans-end, holds-at}
 use Rattle.sheets.proofs.TokenLaws.{word-complete}
-use Rattle.sheets.proofs.ExprLaws.{expr-complete}
-use Rattle.sheets.proofs.PieceLaws.{close, close-first, space-first}
+use Rattle.sheets.proofs.ExprLaws.{expr-complete, args-stop}
 use Rattle.sheets.proofs.LineLaws.{LineStands, line-sound}
 use Rattle.sheets.proofs.LineNumbers.{countLF, line-lf}
 
@@ -27,17 +26,19 @@ pub let-places : (l : List ℕ) (w : Word) (x : Expr) (n : ℕ) → readLine l 0
 unfolding Spans
 let-places l w x n e =
     let (p, h, le, lt) = stands l 0 (let-line w x) n e in
-    let (i, q, r) = spans-split l w (32 ∷ (print x ++ close)) 5 n (p .1 .1 .1 .1 .1) in
-    let (j, t, u) = spans-split l (print x) close (i + 1) n (r .1) in
-    (i, j, p .1 .0, p .1 .1 .1 .1 .0, word-complete l w 5 i q (h .0 .0) (space-first l (print x ++ close) i n r), r .0, expr-complete l x 11 (i + 1) j t (h .0 .1) (close-first l j n u))
+    let (m, q, r) = spans-split l (print (lineBracket (let-line w x))) lf 0 n p in
+    let (i, a, b) = spans-split l w (printArgs (x ▸ nil)) 5 m (q .1 .1 .1 .1 .1) in
+    let (j, c, d) = spans-split l (print x) (printArgs nil) (i + 1) m (b .1) in
+    (i, j, q .1 .0, q .1 .1 .1 .1 .0, word-complete l w 5 i a (h .0 .1 .0) (args-stop l (x ▸ nil) i m b), b .0, expr-complete l x 11 (i + 1) j c (h .0 .1 .1 .0) (args-stop l nil j m d))
 
 -- a show
 pub show-places : (l : List ℕ) (w : Word) (n : ℕ) → readLine l 0 ≡ got (show-line w) n → (i : ℕ) × (getD l 1 0 ≡ 115) × (getD l 5 0 ≡ 32) × (readWord l 6 ≡ got w i)
 unfolding Spans
 show-places l w n e =
     let (p, h, le, lt) = stands l 0 (show-line w) n e in
-    let (i, q, r) = spans-split l w close 6 n (p .1 .1 .1 .1 .1 .1) in
-    (i, p .1 .0, p .1 .1 .1 .1 .1 .0, word-complete l w 6 i q (h .0) (close-first l i n r))
+    let (m, q, r) = spans-split l (print (lineBracket (show-line w))) lf 0 n p in
+    let (i, a, b) = spans-split l w (printArgs nil) 6 m (q .1 .1 .1 .1 .1 .1) in
+    (i, q .1 .0, q .1 .1 .1 .1 .1 .0, word-complete l w 6 i a (h .0 .1 .0) (args-stop l nil i m b))
 
 -- no space stands before place 4, as three letters stand after the bracket
 late : (l : List ℕ) (a b c : ℕ) → getD l 0 0 ≡ 40 → getD l 1 0 ≡ a → getD l 2 0 ≡ b → getD l 3 0 ≡ c → 96 < a → 96 < b → 96 < c → (p : ℕ) → getD l p 0 ≡ 32 → 4 ≤ p
@@ -81,7 +82,7 @@ pub line-ends : (s : List ℕ) (at : ℕ) (l : Line) (n : ℕ) → readLine s at
 unfolding Spans
 line-ends s at l n e =
     let (p, h, le, lt) = stands s at l n e in
-    let (t, et, z) = line-lf l (h .0) in
+    let (t, et, z) = line-lf l h in
     let q : Spans s (t ++ lf) at n = rw et at p in
     let (m, qa, qb) = spans-split s t lf at n q in
     let i : m ≡ at + length t = spans-end s t at m qa in

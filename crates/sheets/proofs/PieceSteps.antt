@@ -1,7 +1,7 @@
 -- The pieces of a line, a step at a time, as the code reads them: `(` and a word, a space and what follows it, `)` and LF. Assumes nothing.
 use Prim.Native.Nat.{ℕ, _+_, _<_}
 use native.Mathlib.Omega.{arith}
-use mathlib.Core.Path.{_≡_, refl, sym, _∙_}
+use mathlib.Core.Path.{_≡_, refl, ap, _∙_}
 use mathlib.Core.Bool.{Bool, true, false}
 use mathlib.Core.List.{List}
 use lib.Dec.{eqb}
@@ -9,7 +9,8 @@ use lib.ListN.{length, getD}
 use borrow.Author.Tests.{eq-eqb, ne-eqb, lt-leb, eqb-true}
 use Rattle.sheets.specs.code.Reader.{Got, none, got, _then_, orElse, nothing, opening, spaced, closing, limit}
 use Rattle.sheets.specs.code.Views.{place, closed}
-use Rattle.sheets.proofs.ReaderLaws.{byte-inside}
+use Rattle.sheets.proofs.ReaderLaws.{mapped, closing-mapped, byte-inside}
+use Rattle.sheets.proofs.Viewed.{placed-none, placed-got}
 use Rattle.sheets.specs.declared.expr.Read.{Read}
 
 module _ (s : List ℕ) (at b : ℕ) (eb : b ≡ getD s at 0) where
@@ -53,27 +54,14 @@ module _ {A : Type 0} (f : ℕ → Got A) (s : List ℕ) (at : ℕ) (x : A) (n :
   pub spaced-inside : at < length s
   spaced-inside = byte-inside s at 32 (spaced-got .0) (omega arith)
 
-abbrev ended : {A : Type 0} → A → Bool → Bool → ℕ → Got A
-ended x b c at = orElse b (orElse c (λ n. got x (n + 2)) nothing) nothing at
-
 module _ {A : Type 0} (x : A) (s : List ℕ) (at : ℕ) (r : Read) (er : r ≡ closed s at) where
   pub closing-none : r ≡ Read.Bad → closing x s at ≡ none
-  unfolding closing orElse place
-  closing-none h = go (eqb (getD s at 0) 41) (eqb (getD s (at + 1) 0) 10) (sym er ∙ h)
-    where
-      go : (b c : Bool) → place (ended {A = Unit {0}} tt b c at) ≡ Read.Bad → ended x b c at ≡ none
-      go true true e = let z : _≡_ {A = ℕ} 0 1 = cc in absurd (omega arith)
-      go true false e = refl
-      go false c e = refl
+  unfolding mapped
+  closing-none h = closing-mapped x s at ∙ ap (mapped (λ u. x)) (placed-none (closing tt s at) r er h)
 
   pub closing-got : (n : ℕ) → r ≡ Read.At n → closing x s at ≡ got x n
-  unfolding closing orElse place
-  closing-got n h = go (eqb (getD s at 0) 41) (eqb (getD s (at + 1) 0) 10) (sym er ∙ h)
-    where
-      go : (b c : Bool) → place (ended {A = Unit {0}} tt b c at) ≡ Read.At n → ended x b c at ≡ got x n
-      go true true e = let z : at + 2 ≡ n = cc in rw z refl
-      go true false e = let z : _≡_ {A = ℕ} 0 1 = cc in absurd (omega arith)
-      go false c e = let z : _≡_ {A = ℕ} 0 1 = cc in absurd (omega arith)
+  unfolding mapped
+  closing-got n h = let (u, eu) = placed-got (closing tt s at) r er n h in closing-mapped x s at ∙ ap (mapped (λ u. x)) eu
 
 -- more than 200 bytes
 pub limit-over : {A : Type 0} (at : ℕ) (x : A) (n : ℕ) → at + 200 < n → limit at (got x n) ≡ none

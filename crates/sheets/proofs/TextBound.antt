@@ -11,7 +11,7 @@ use Rattle.sheets.specs.declared.value.Value.{Value}
 use Rattle.sheets.specs.declared.value.Value.the-variants.{Number, Radians, Metres, Geocentric, Geodetic, Vector, Frame}
 use Rattle.sheets.specs.Text.{Word}
 use Rattle.sheets.specs.Trees.{Line, let-line, show-line, Sheet, numbered}
-use Rattle.sheets.specs.Grammar.{IsWord, LineParts, AreLines, IsSheet, after as afterPhase}
+use Rattle.sheets.specs.Grammar.{IsWord, IsLine, AreLines, IsSheet, after as afterPhase}
 use Rattle.sheets.specs.Kinds.{Kind, number, angle, len, geocentric, geodetic, vector, frame, kindOf, kindName}
 use Rattle.sheets.specs.Names.{lookup, givenOn}
 use Rattle.sheets.specs.Scopes.{Scope, give}
@@ -98,12 +98,12 @@ Longer s t = length (entryLines (t .entries)) ≤ length (entryLines (s .entries
 longer-scope : (s : State) (c : Checked (Scope Value)) → Left (Longer s) (rescoped s c)
 longer-scope s c = left-then (Longer s) (orSticks c) _ (λ x. omega arith)
 
-longer-step : (i : ℕ) (s : State) (x : Line) → LineParts x → Left (Longer s) (step i s x)
+longer-step : (i : ℕ) (s : State) (x : Line) → IsLine x → Left (Longer s) (step i s x)
 unfolding step
 longer-step i s (let-line w x) t = left-then (Longer s) (eval x (s .ellipsoid) (s .scope .known)) _ (λ y. longer-scope s (give (givenOn i w y) (s .scope)))
 longer-step i s (show-line w) t =
     left-then (Longer s) (meet (lookup w (s .scope .known))) _ (λ y.
-    let h = line-length w y (word-length w t) in
+    let h = line-length w y (word-length w (t .0 .1 .0)) in
     let k = length-append (entryLines (s .entries)) (outputLine w y) in
     let m = ap length (entries-last i (s .entries) w y) in
     omega arith)
@@ -131,7 +131,7 @@ steps-text : (xs : List Line) (i p : ℕ) (s : State) → AreLines p xs → leng
 unfolding steps
 steps-text [] i p s t = omega arith
 steps-text (x ∷ xs) i p s t =
-    let h = onward-text (step i s x) i s (λ u. steps (numbered (suc i) xs) u) (223 * length xs) (longer-step i s x (t .0 .0)) (λ u. steps-text xs (suc i) (afterPhase p x) u (t .2)) in
+    let h = onward-text (step i s x) i s (λ u. steps (numbered (suc i) xs) u) (223 * length xs) (longer-step i s x (t .0)) (λ u. steps-text xs (suc i) (afterPhase p x) u (t .2)) in
     omega arith
 
 pub text-fits : (c : Sheet) (rs : List Float) → IsSheet c → length (ranText (machine c rs)) ≤ 24576

@@ -186,9 +186,6 @@ num-sound s at = go (eqb (getD s at 0) 45) refl
     go true e = signed true (at + 1) (λ q n h. (rw (h .2) (eqb-true (getD s at 0) 45 e, h .0), h .1)) (readWhole true s (at + 1)) (whole-sound s true (at + 1))
     go false e = signed false at (λ q n h. (rw (h .2) (h .0), h .1)) (readWhole false s at) (whole-sound s false at)
 
-pub num-spans : (s : List ℕ) (at : ℕ) (q : Num) (n : ℕ) → readNum s at ≡ got q n → n ≡ at + length (printNum q)
-num-spans s at q n e = spans-end s (printNum q) at n (holds-at (NumAt s at) (readNum s at) q n (num-sound s at) e .0)
-
 whole-complete : (s : List ℕ) (m : Bool) (w t : List ℕ) (at n : ℕ) → Spans s (w ++ point t) at n → Each Digit w → 1 ≤ length w → length w ≤ 9 → Each Digit t → length t ≤ 6 → Stops s n
     → readWhole m s at ≡ got (record { minus = m; whole = w; part = t }) n
 unfolding readWhole partIf Spans digit

@@ -8,12 +8,14 @@ use Rattle.sheets.specs.Trees.{Num}
 use Rattle.sheets.specs.code.Codes.{codeOf}
 use Rattle.sheets.specs.code.Reader.{Got, none, got}
 use Rattle.sheets.specs.Limits.{numValue}
-use Rattle.sheets.specs.code.Views.{place, coded, counted, numeralOf, doubled}
+use Rattle.sheets.specs.code.Views.{place, coded, counted, numeralOf, doubled, nameAt, namedAt}
 use Rattle.sheets.specs.declared.bytes.WordRead.{WordRead}
 use Rattle.sheets.specs.declared.num.Numeral.{Numeral}
 use Rattle.sheets.specs.declared.num.NumRead.{NumRead}
 use Rattle.sheets.specs.declared.num.DoubleRead.{DoubleRead}
 use Rattle.sheets.specs.declared.expr.Read.{Read}
+use Rattle.sheets.specs.declared.lines.NameAt.{NameAt}
+use Rattle.sheets.specs.declared.lines.NameRead.{NameRead}
 
 pub placed-none : {A : Type 0} (o : Got A) (r : Read) → r ≡ place o → r ≡ Read.Bad → o ≡ none
 unfolding place
@@ -54,3 +56,13 @@ pub doubled-got : (o : Got Num) (r : DoubleRead) → r ≡ doubled o → (x : Fl
 unfolding doubled
 doubled-got none r e x n h = let z : _≡_ {A = ℕ} 0 1 = cc in absurd (omega arith)
 doubled-got (got q m) r e x n h = let i : m ≡ n = cc in (q, ap (got q) i, cc)
+
+pub named-none : (at : ℕ) (o : Got Word) (r : NameRead) → r ≡ namedAt at o → r ≡ NameRead.Not → o ≡ none
+unfolding namedAt
+named-none at none r e h = refl
+named-none at (got x n) r e h = let z : _≡_ {A = ℕ} 0 1 = cc in absurd (omega arith)
+
+pub named-got : (at : ℕ) (o : Got Word) (r : NameRead) → r ≡ namedAt at o → (y : NameAt) (n : ℕ) → r ≡ NameRead.Is y n → (w : Word) × (o ≡ got w n) × (y ≡ nameAt w at)
+unfolding namedAt
+named-got at none r e y n h = let z : _≡_ {A = ℕ} 0 1 = cc in absurd (omega arith)
+named-got at (got w m) r e y n h = let i : m ≡ n = cc in (w, ap (got w) i, cc)

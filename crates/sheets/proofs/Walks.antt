@@ -1,13 +1,13 @@
--- The lines of a sheet that is of the grammar, one after another, and what the answers of `head` and `line` say of them:
+-- The lines of a sheet that is of the grammar, one after another, and what the answers of `head` and `line_head` say of them:
 -- what every walk over the lines goes by. Assumes nothing.
-use Prim.Native.Nat.{ℕ, zero, suc, _+_, _<_, _≤_}
+use Prim.Native.Nat.{ℕ, zero, suc, _+_, _-_, _<_, _≤_}
 use native.Mathlib.Omega.{arith}
+use native.Mathlib.Numerals.{sub-one}
 use mathlib.Core.Path.{_≡_, refl, sym, ap, _∙_}
 use mathlib.Core.Bool.{Bool, true, false}
 use mathlib.Core.List.{List, [], _∷_}
-use lib.Dec.{leb}
 use lib.ListN.{length}
-use borrow.Author.Tests.{le-leb, lt-leb, leb-true, leb-false}
+use borrow.Author.Tests.{le-leb, lt-leb}
 use Rattle.sheets.specs.Trees.{Line}
 use Rattle.sheets.specs.Grammar.{allowed, after}
 use Rattle.sheets.specs.code.Reader.{Got, none, got, orElse, nothing, readLine, permitted, readIn, Form, formed, badLine, _thenᶠ_, linesStep, readLines}
@@ -24,15 +24,32 @@ permitted-got p (got m k) l n e = go (allowed p m) refl e
     go true h e = let i : m ≡ l = cc in (e, ap (allowed p) (sym i) ∙ h)
     go false h e = let z : _≡_ {A = ℕ} 0 1 = cc in absurd (omega arith)
 
+-- every line may stand in every phase
+pub any-phase : (p : ℕ) (o : Got Line) → permitted p o ≡ o
+unfolding permitted allowed orElse
+any-phase p none = refl
+any-phase p (got l n) = refl
+
+-- the reader of the lines from line i on, at most k of them, a step at a time
+module _ (s : List ℕ) (at i p : ℕ) where
+  pub lines-end : (k : ℕ) → length s ≤ at → readLines k i p s at ≡ formed []
+  unfolding readLines linesStep
+  lines-end zero h = rw (le-leb (length s) at h) refl
+  lines-end (suc k) h = rw (le-leb (length s) at h) refl
+
+  pub lines-over : (k : ℕ) → k ≡ 0 → at < length s → readLines k i p s at ≡ badLine i
+  unfolding readLines linesStep
+  lines-over k e h = rw (e, lt-leb (length s) at h) refl
+
+  pub lines-step : (k : ℕ) → 0 < k → at < length s → readLines k i p s at ≡ linesStep false i (readLine s at) (λ l. readLines (k - 1) (i + 1) (after p l) s)
+  unfolding readLines
+  lines-step zero pos h = absurd (omega arith)
+  lines-step (suc k) pos h = rw (lt-leb (length s) at h, sub-one, any-phase p (readLine s at)) refl
+
 -- the lines ls from line i on, at most `left` of them, the first in the phase p
 module _ (s : List ℕ) (left i p at : ℕ) (ls : List Line) (e : readLines left i p s at ≡ formed ls) where
   pub walk-end : length s ≤ at → ls ≡ []
-  unfolding readLines linesStep
-  walk-end h = go left e
-    where
-      go : (k : ℕ) → readLines k i p s at ≡ formed ls → ls ≡ []
-      go zero e = let q = rw (le-leb (length s) at h) at e in cc
-      go (suc k) e = let q = rw (le-leb (length s) at h) at e in cc
+  walk-end h = let q = lines-end s at i p left h in cc
 
   -- the line at this place, the place of the next one, and the lines after it, in their phase
   pub record Step : Type 0 where
@@ -63,20 +80,3 @@ module _ (s : List ℕ) (left i p at : ℕ) (ls : List Line) (e : readLines left
       go : (k : ℕ) → left ≡ k → readLines k i p s at ≡ formed ls → Step
       go zero ek e = let q = rw (lt-leb (length s) at h) at e in let z : _≡_ {A = ℕ} 0 1 = cc in absurd (omega arith)
       go (suc k) ek e = more k ek (readIn p s at) refl (rw (lt-leb (length s) at h) at e)
-
--- no more lines than may follow
-pub walk-few : (s : List ℕ) (left i p at : ℕ) (ls : List Line) → readLines left i p s at ≡ formed ls → length ls ≤ left
-walk-few s zero i p at ls e = go (leb (length s) at) refl
-  where
-    go : (b : Bool) → leb (length s) at ≡ b → length ls ≤ 0
-    go true h = let z = ap length (walk-end s zero i p at ls e (leb-true (length s) at h)) in omega arith
-    go false h = let w = walk-line s zero i p at ls e (leb-false (length s) at h) in absurd (omega (arith, w .one-less))
-walk-few s (suc k) i p at ls e = go (λ j q n ms. walk-few s k j q n ms) (leb (length s) at) refl
-  where
-    go : ((j q n : ℕ) (ms : List Line) → readLines k j q s n ≡ formed ms → length ms ≤ k) → (b : Bool) → leb (length s) at ≡ b → length ls ≤ suc k
-    go more true h = let z = ap length (walk-end s (suc k) i p at ls e (leb-true (length s) at h)) in omega arith
-    go more false h =
-        let w = walk-line s (suc k) i p at ls e (leb-false (length s) at h) in
-        let f : w .fewer ≡ k = omega (arith, w .one-less) in
-        let r = more (i + 1) (after p (w .line)) (w .next) (w .rest) (ap (λ n. readLines n (i + 1) (after p (w .line)) s (w .next)) (sym f) ∙ w .goes-on) in
-        omega (arith, ap length (w .all), r)

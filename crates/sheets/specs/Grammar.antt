@@ -66,41 +66,42 @@ abbrev mutual
   AreArgs d zero (x ▸ xs) = ⊥
   AreArgs d (suc k) (x ▸ xs) = IsExpr d x × AreArgs d k xs
 
--- ---- Each line is ended by LF and has at most 200 bytes with it. Brackets nest at most 12 deep, the line's own included: 11 in its EXPR.
+-- ---- Each line is a bracket, ended by LF, and has at most 200 bytes with it. Brackets nest at most 12 deep, the line's own included.
+abbrev pub ended : Expr → List ℕ
+ended x = print x ⌢ lf
+
+abbrev pub IsEnded : Expr → Type 0
+IsEnded x = IsExpr 12 x × (length (ended x) ≤ 200)
 
 -- Line 1 is `(ellipsoid wgs84)` or `(ellipsoid NUM NUM)`.
-abbrev pub printHead : Head → List ℕ
-printHead wgs84 = ascii "(ellipsoid wgs84)" ⌢ lf
-printHead (custom q r) = ascii "(ellipsoid " ⌢ printNum q ⌢ ascii " " ⌢ printNum r ⌢ ascii ")" ⌢ lf
+abbrev pub headBracket : Head → Expr
+headBracket wgs84 = form-expr (ascii "ellipsoid") (word-expr (ascii "wgs84") ▸ nil)
+headBracket (custom q r) = form-expr (ascii "ellipsoid") (num-expr q ▸ num-expr r ▸ nil)
 
-abbrev pub HeadParts : Head → Type 0
-HeadParts wgs84 = Unit {0}
-HeadParts (custom q r) = IsNum q × IsNum r
+abbrev pub printHead : Head → List ℕ
+printHead h = ended (headBracket h)
 
 abbrev pub IsHead : Head → Type 0
-IsHead h = HeadParts h × (length (printHead h) ≤ 200)
+IsHead h = IsEnded (headBracket h)
 
 -- Every other line is `(let WORD EXPR)` or `(show WORD)`.
-abbrev pub printLine : Line → List ℕ
-printLine (let-line w x) = ascii "(let " ⌢ w ⌢ ascii " " ⌢ print x ⌢ ascii ")" ⌢ lf
-printLine (show-line w) = ascii "(show " ⌢ w ⌢ ascii ")" ⌢ lf
+abbrev pub lineBracket : Line → Expr
+lineBracket (let-line w x) = form-expr (ascii "let") (word-expr w ▸ x ▸ nil)
+lineBracket (show-line w) = form-expr (ascii "show") (word-expr w ▸ nil)
 
-abbrev pub LineParts : Line → Type 0
-LineParts (let-line w x) = IsWord w × IsExpr 11 x
-LineParts (show-line w) = IsWord w
+abbrev pub printLine : Line → List ℕ
+printLine l = ended (lineBracket l)
 
 abbrev pub IsLine : Line → Type 0
-IsLine l = LineParts l × (length (printLine l) ≤ 200)
+IsLine l = IsEnded (lineBracket l)
 
 -- ---- Which lines may stand where. It goes by a phase: 0 directly after line 1, and then what `after` gives for the line before.
--- Every line may stand in every phase; one that may stand only in some places has its clause here.
+-- Every line may stand in every phase; a form that may not says so here.
 unfoldable pub allowed : ℕ → Line → Bool
-allowed p (let-line w x) = true
-allowed p (show-line w) = true
+allowed p l = true
 
 unfoldable pub after : ℕ → Line → ℕ
-after p (let-line w x) = 1
-after p (show-line w) = 1
+after p l = 1
 
 -- ---- A sheet has 1 to 96 lines.
 abbrev pub printLines : List Line → List ℕ

@@ -1,29 +1,28 @@
 // Refusals 3 to 6 over a whole sheet, in checking order: its form, its ellipsoid, and then names and kinds, line by line.
 // The lists `words`, `codes` and `newest` are those of kind_walk.rt.
-use crate::bytes::WordRead;
-use crate::bytes::byte;
 use crate::expr::Read;
 use crate::first_line::FirstLine;
 use crate::first_line::first_line;
 use crate::form::FormRead;
-use crate::form::form_lines;
+use crate::form::form_from;
 use crate::kind_walk::KindRead;
 use crate::kind_walk::find_kind;
 use crate::kind_walk::kind_at;
 use crate::kinds::opens;
-use crate::lines::LET;
-use crate::lines::SHOW;
+use crate::lines::LineHead;
 use crate::lines::closing;
-use crate::lines::opening;
-use crate::lines::word_slot;
+use crate::lines::is_short;
+use crate::lines::line_head;
 use crate::newest::put_newest;
 use frames::ellipsoid::Ellipsoid;
 ghost use mathlib.Core.Path.{_≡_};
-ghost use Prim.Native.Nat.{_≤_};
-ghost use Rattle.sheets.specs.code.Reader.{readLet, readShow, readLine, readSheet};
+ghost use Prim.Native.Nat.{ℕ, _≤_, _-_};
+ghost use Rattle.sheets.specs.code.Reader.{got, let-word, rest, readLine, readLines, readSheet};
+ghost use Rattle.sheets.specs.code.Views.{linesForm};
+ghost use Rattle.sheets.specs.Trees.{show-line};
 ghost use Rattle.sheets.specs.Answers.{ofForm};
 ghost use Rattle.sheets.specs.declared.admit.Outcome.{Outcome};
-ghost use Rattle.sheets.specs.code.Walking.{ForKnown, BarredWord, LineHas, LinesWalk, Admits};
+ghost use Rattle.sheets.specs.code.Walking.{ForKnown, BarredWord, LineHas, WordHas, shortKind, LinesWalk, unlessBad, Admits};
 
 // The code of a line's word, its kind's code and the place of the next line, or the number of the refusal.
 pub enum LineKind {
@@ -54,62 +53,62 @@ fn is_barred(words: &[u64; 96], codes: &[u8; 96], newest: &[u8; 512], code: u64)
     if kind == 255 { false } else { true }
 }
 
-// The rest of a line after `(let`. Its expression is read before its name is given.
-fn let_kind(
-    s: &[u8],
-    at: usize,
+// A line that names the word with this code, where the next line stands at `next`: the word's kind, or refusal 5 where it is unknown.
+fn known_kind(
+    code: u64,
+    next: usize,
     words: &[u64; 96],
     codes: &[u8; 96],
     newest: &[u8; 512],
 ) -> LineKind
-    ensures { λ r. ⌜ ForKnown (now (words .entry)) (now (codes .entry)) (now (newest .entry)) (λ ps. LineHas (readLet (now (s .entry)) at) ps r) ⌝ }
+    ensures { λ r. ⌜ ForKnown (now (words .entry)) (now (codes .entry)) (now (newest .entry)) (λ ps. WordHas code (λ w. got (show-line w) next) ps r) ⌝ }
 {
-    let w = word_slot(s, at);
-    let WordRead::Is(code, n) = w else {
-        return LineKind::Refused(3);
-    };
-    let b = byte(s, n);
-    if b == 32 {
-        let r = kind_at(s, n + 1, 11, words, codes, newest);
-        return match r {
-            KindRead::Refused(number) => LineKind::Refused(number),
-            KindRead::Is(kind, end) => {
-                if is_barred(words, codes, newest, code) {
-                    return LineKind::Refused(5);
-                }
-                let c = closing(s, end);
-                match c {
-                    Read::Bad => LineKind::Refused(3),
-                    Read::At(next) => LineKind::Is(code, kind, next),
-                }
-            }
-        };
-    }
-    LineKind::Refused(3)
-}
-
-// The rest of a line after `(show`.
-fn show_kind(
-    s: &[u8],
-    at: usize,
-    words: &[u64; 96],
-    codes: &[u8; 96],
-    newest: &[u8; 512],
-) -> LineKind
-    ensures { λ r. ⌜ ForKnown (now (words .entry)) (now (codes .entry)) (now (newest .entry)) (λ ps. LineHas (readShow (now (s .entry)) at) ps r) ⌝ }
-{
-    let w = word_slot(s, at);
-    let WordRead::Is(code, n) = w else {
-        return LineKind::Refused(3);
-    };
     let kind = find_kind(words, codes, newest, code);
     if kind == 255 {
         return LineKind::Refused(5);
     }
-    let c = closing(s, n);
-    match c {
-        Read::Bad => LineKind::Refused(3),
-        Read::At(next) => LineKind::Is(code, kind, next),
+    LineKind::Is(code, kind, next)
+}
+
+// A let of the word with this code, from the place of its expression, which is read before the name is given.
+fn let_kind(
+    s: &[u8],
+    code: u64,
+    at: usize,
+    words: &[u64; 96],
+    codes: &[u8; 96],
+    newest: &[u8; 512],
+) -> LineKind
+    ensures { λ r. ⌜ ForKnown (now (words .entry)) (now (codes .entry)) (now (newest .entry)) (λ ps. WordHas code (λ w. rest (now (s .entry)) (let-word w) at) ps r) ⌝ }
+{
+    let r = kind_at(s, at, 11, words, codes, newest);
+    match r {
+        KindRead::Refused(number) => LineKind::Refused(number),
+        KindRead::Is(kind, end) => {
+            if is_barred(words, codes, newest, code) {
+                return LineKind::Refused(5);
+            }
+            let c = closing(s, end);
+            match c {
+                Read::Bad => LineKind::Refused(3),
+                Read::At(next) => LineKind::Is(code, kind, next),
+            }
+        }
+    }
+}
+
+// A line that stands at `at`, where it has at most 200 bytes; else refusal 3.
+fn short_kind(at: usize, line: LineKind) -> LineKind
+    ensures { λ r. ⌜ r ≡ shortKind at line ⌝ }
+{
+    match line {
+        LineKind::Refused(number) => LineKind::Refused(number),
+        LineKind::Is(code, kind, next) => {
+            if is_short(at, next) {
+                return LineKind::Is(code, kind, next);
+            }
+            LineKind::Refused(3)
+        }
     }
 }
 
@@ -123,14 +122,17 @@ fn line_kind(
 ) -> LineKind
     ensures { λ r. ⌜ ForKnown (now (words .entry)) (now (codes .entry)) (now (newest .entry)) (λ ps. LineHas (readLine (now (s .entry)) at) ps r) ⌝ }
 {
-    let w = opening(s, at);
-    let WordRead::Is(code, n) = w else {
-        return LineKind::Refused(3);
-    };
-    match code {
-        LET => let_kind(s, n, words, codes, newest),
-        SHOW => show_kind(s, n, words, codes, newest),
-        _ => LineKind::Refused(3),
+    let h = line_head(s, at);
+    match h {
+        LineHead::Bad => LineKind::Refused(3),
+        LineHead::Let(name, value) => {
+            let r = let_kind(s, name.code, value, words, codes, newest);
+            short_kind(at, r)
+        }
+        LineHead::Show(name, next) => {
+            let r = known_kind(name.code, next, words, codes, newest);
+            short_kind(at, r)
+        }
     }
 }
 
@@ -145,21 +147,36 @@ fn refused(number: u8, line: usize) -> Admission
     }
 }
 
-// The lines from line 2, which stands at `start`, of a sheet of so many lines, each of the grammar. Line `passed` + 2 stands at `at`.
-fn admit_lines(s: &[u8], start: usize, lines: usize, e: Ellipsoid) -> Admission
-    requires { ⌜ lines ≤ 96 ⌝ }
-    ensures { λ r. ⌜ LinesWalk (now (s .entry)) start lines e r ⌝ }
+// The refusal `number` of a line, unless a line from line `from` on, which stands at `at`, is not of the grammar: that comes first.
+fn unless_bad(s: &[u8], at: usize, from: usize, number: u8, line: usize) -> Admission
+    requires { ⌜ 1 ≤ from ⌝ }
+    ensures { λ r. ⌜ ((p : ℕ) → r .outcome ≡ unlessBad (linesForm from (readLines (97 - from) from p (now (s .entry)) at)) number line) ⌝ }
+{
+    let f = form_from(s, at, from);
+    match f {
+        FormRead::Bad(bad) => refused(3, bad),
+        FormRead::Fine(_) => refused(number, line),
+    }
+}
+
+// The lines from line 2, which stands at `start`. Line `passed` + 2 stands at `at`; a 97th is one too many.
+fn walk_lines(s: &[u8], start: usize, e: Ellipsoid) -> Admission
+    ensures { λ r. ⌜ LinesWalk (readLines 95 2 0 (now (s .entry)) start) e start r ⌝ }
 {
     let mut words: [u64; 96] = [0; 96];
     let mut codes: [u8; 96] = [255; 96];
     let mut newest: [u8; 512] = [0; 512];
     let mut passed: usize = 0;
     let mut at = start;
-    while passed + 1 < lines {
+    while at < s.len() {
+        if 95 <= passed {
+            return refused(3, 97);
+        }
         let r = line_kind(s, at, &words, &codes, &newest);
         match r {
             LineKind::Refused(number) => {
-                return refused(number, passed + 2);
+                let line = passed + 2;
+                return unless_bad(s, at, line, number, line);
             }
             LineKind::Is(code, kind, next) => {
                 passed += 1;
@@ -170,30 +187,18 @@ fn admit_lines(s: &[u8], start: usize, lines: usize, e: Ellipsoid) -> Admission
             }
         }
     }
-    let outcome = Outcome::Passes(lines, e, start);
+    let outcome = Outcome::Passes(passed + 1, e, start);
     Admission { outcome, codes }
 }
 
-// Refusals 3 to 6 of a whole sheet: the form of every line comes before the range of line 1, and that before names and kinds.
+// Refusals 3 to 6 of a whole sheet: the form of every line comes before the range of line 1, and that before names and kinds. A sheet that passes is read once.
 pub fn admit(s: &[u8]) -> Admission
     ensures { λ r. ⌜ Admits (now (s .entry)) (ofForm (readSheet (now (s .entry)))) r ⌝ }
 {
     let h = first_line(s);
     match h {
         FirstLine::Bad => refused(3, 1),
-        FirstLine::OutOfRange(start) => {
-            let f = form_lines(s, start);
-            match f {
-                FormRead::Bad(line) => refused(3, line),
-                FormRead::Fine(_) => refused(4, 1),
-            }
-        }
-        FirstLine::Is(e, start) => {
-            let f = form_lines(s, start);
-            match f {
-                FormRead::Bad(line) => refused(3, line),
-                FormRead::Fine(lines) => admit_lines(s, start, lines, e),
-            }
-        }
+        FirstLine::OutOfRange(start) => unless_bad(s, start, 2, 4, 1),
+        FirstLine::Is(e, start) => walk_lines(s, start, e),
     }
 }

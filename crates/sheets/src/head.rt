@@ -2,102 +2,83 @@
 use crate::bytes::WordRead;
 use crate::bytes::byte;
 use crate::expr::Read;
+use crate::lines::NameRead;
 use crate::lines::closing;
+use crate::lines::one_word;
 use crate::lines::opening;
-use crate::lines::word_slot;
-use crate::num::NumRead;
-use crate::num::num;
+use crate::num::DoubleRead;
+use crate::num::double;
+use crate::words;
 ghost use mathlib.Core.Path.{_≡_};
-ghost use Prim.Native.Nat.{_+_};
-ghost use Rattle.sheets.specs.code.Reader.{readWord, readNum, spaced, readCustom, wgsOr, readHead};
-ghost use Rattle.sheets.specs.code.Views.{counted, headBy};
+ghost use Rattle.sheets.specs.Text.{ascii};
+ghost use Rattle.sheets.specs.Trees.{wgs84, custom};
+ghost use Rattle.sheets.specs.code.Reader.{readNum, spaced, one, two, readThe, readHead};
+ghost use Rattle.sheets.specs.code.Views.{place, doubled, headOf};
 
-// Line 1: the places of its two numbers, where it has them, and the place of the next line.
+// Line 1: its two numbers as doubles, where it has them, and the place of the next line.
 pub enum HeadRead {
     Wgs(usize),
-    Custom(usize, usize, usize),
+    Custom(f64, f64, usize),
     Bad,
 }
 
-// The codes of the words ellipsoid and wgs84.
-const ELLIPSOID: u64 = 18733023577577;
-
-const WGS84: u64 = 43487611;
-
-// A space and a number.
-fn num_slot(s: &[u8], at: usize) -> NumRead
-    ensures { λ r. ⌜ r ≡ counted (spaced (readNum (now (s .entry))) (now (s .entry)) at) ⌝ }
+// A space and a number, as a double.
+fn double_slot(s: &[u8], at: usize) -> DoubleRead
+    ensures { λ r. ⌜ r ≡ doubled (spaced (readNum (now (s .entry))) (now (s .entry)) at) ⌝ }
 {
     let b = byte(s, at);
     if b == 32 {
-        return num(s, at + 1);
+        return double(s, at + 1);
     }
-    NumRead::Not
+    DoubleRead::Not
 }
 
 // The rest of line 1 after `(ellipsoid`, where it has two numbers.
 fn custom(s: &[u8], at: usize) -> HeadRead
-    ensures { λ r. ⌜ r ≡ headBy (at + 1) (readCustom (now (s .entry)) at) ⌝ }
+    ensures { λ r. ⌜ r ≡ headOf (two readNum readNum custom (now (s .entry)) at) ⌝ }
 {
-    let p = num_slot(s, at);
-    let NumRead::Is(x) = p else {
+    let p = double_slot(s, at);
+    let DoubleRead::Is(radius, n) = p else {
         return HeadRead::Bad;
     };
-    let q = num_slot(s, x.end);
-    let NumRead::Is(y) = q else {
+    let q = double_slot(s, n);
+    let DoubleRead::Is(inverse, m) = q else {
         return HeadRead::Bad;
     };
-    let c = closing(s, y.end);
+    let c = closing(s, m);
     let Read::At(next) = c else {
         return HeadRead::Bad;
     };
-    HeadRead::Custom(at + 1, x.end + 1, next)
+    HeadRead::Custom(radius, inverse, next)
 }
 
-// The rest of line 1 after `(ellipsoid`: where a word follows it must be wgs84.
-fn wgs_or(s: &[u8], at: usize) -> HeadRead
-    ensures { λ r. ⌜ r ≡ headBy (at + 1) (wgsOr (spaced (readWord (now (s .entry))) (now (s .entry)) at) (now (s .entry)) at) ⌝ }
+// The rest of line 1 after `(ellipsoid`, where it has the word wgs84.
+fn wgs_end(s: &[u8], at: usize) -> Read
+    ensures { λ r. ⌜ r ≡ place (one (readThe (ascii "wgs84")) (λ u. wgs84) (now (s .entry)) at) ⌝ }
 {
-    let w = word_slot(s, at);
-    let WordRead::Is(code, n) = w else {
-        return custom(s, at);
+    let w = one_word(s, at);
+    let NameRead::Is(name, next) = w else {
+        return Read::Bad;
     };
-    if code == WGS84 {
-        let c = closing(s, n);
-        let Read::At(next) = c else {
-            return HeadRead::Bad;
-        };
-        return HeadRead::Wgs(next);
+    if name.code == words::WGS84 {
+        return Read::At(next);
     }
-    HeadRead::Bad
+    Read::Bad
 }
 
-// Line 1, of at most 200 bytes: its first number stands at 11.
+// Line 1. It has at most 48 bytes, so that it needs no test for 200.
 pub fn head(s: &[u8]) -> HeadRead
-    ensures { λ r. ⌜ r ≡ headBy 11 (readHead (now (s .entry))) ⌝ }
+    ensures { λ r. ⌜ r ≡ headOf (readHead (now (s .entry))) ⌝ }
 {
     let k = opening(s, 0);
     let WordRead::Is(code, n) = k else {
         return HeadRead::Bad;
     };
-    if code == ELLIPSOID {
-        let r = wgs_or(s, n);
-        return match r {
-            HeadRead::Bad => HeadRead::Bad,
-            HeadRead::Wgs(next) => {
-                if next <= 200 {
-                    HeadRead::Wgs(next)
-                } else {
-                    HeadRead::Bad
-                }
-            }
-            HeadRead::Custom(first, second, next) => {
-                if next <= 200 {
-                    HeadRead::Custom(first, second, next)
-                } else {
-                    HeadRead::Bad
-                }
-            }
+    if code == words::ELLIPSOID {
+        let w = wgs_end(s, n);
+        return match w {
+            Read::At(next) => HeadRead::Wgs(next),
+            Read::Bad => custom(s, n),
         };
     }
     HeadRead::Bad

@@ -1,7 +1,7 @@
 // The kind of an expression, from the sheet alone: refusals 5 and 6 in the machine's order.
 // The lines passed are two lists: line i + 1 has the word with the code `words[i]`, of the kind with the code `codes[i]`.
 // Line 1 has no word; `newest` is that of newest.rt, for the places of `words`.
-// The walk comes after the form pass. Bytes that are not of the grammar, which it then never meets, are answered by refusal 3.
+// Bytes that are not of the grammar are refused, by refusal 3 where nothing is refused before them.
 use crate::bytes::WordRead;
 use crate::bytes::byte;
 use crate::bytes::word;

@@ -1,13 +1,15 @@
-// The lines of a sheet after line 1: let and show. `line` gives the parts of the line at a place.
+// The lines of a sheet after line 1. `line_head` gives what every reader of a line begins with; `line_end` reads on to its end.
 use crate::bytes::WordRead;
 use crate::bytes::byte;
 use crate::bytes::word;
 use crate::expr::Read;
 use crate::expr::expr;
+use crate::words;
 ghost use mathlib.Core.Path.{_≡_};
 ghost use Prim.Native.Nat.{_+_};
-ghost use Rattle.sheets.specs.code.Reader.{readWord, readExpr, opening, spaced, readLet, readShow, lineOf, readLine};
-ghost use Rattle.sheets.specs.code.Views.{place, closed, coded, lineBy, wordPlace};
+ghost use lib.Dec.{leb};
+ghost use Rattle.sheets.specs.code.Reader.{readWord, opening, spaced, first, one, readBegun, readLine};
+ghost use Rattle.sheets.specs.code.Views.{place, closed, shortEnd, coded, namedAt, lineHead};
 
 // A line's word: its code, the place of its first byte, and the place after it.
 pub struct NameAt {
@@ -16,20 +18,16 @@ pub struct NameAt {
     pub end: usize,
 }
 
-// What a line is, with its word; a let has also the place of its expression.
-pub enum LineForm {
+// A word, and the place after what was read with it.
+pub enum NameRead {
+    Is(NameAt, usize),
+    Not,
+}
+
+// What a line is, with its word: of a let the place of its expression, of any other line the place of the next one.
+pub enum LineHead {
     Let(NameAt, usize),
-    Show(NameAt),
-}
-
-// A line, and the place of the next one.
-pub struct LineAt {
-    pub form: LineForm,
-    pub next: usize,
-}
-
-pub enum LineRead {
-    Is(LineAt),
+    Show(NameAt, usize),
     Bad,
 }
 
@@ -55,17 +53,6 @@ pub fn word_slot(s: &[u8], at: usize) -> WordRead
     WordRead::Not
 }
 
-// A space and an expression.
-fn expr_slot(s: &[u8], at: usize) -> Read
-    ensures { λ r. ⌜ r ≡ place (spaced (readExpr 11 (now (s .entry))) (now (s .entry)) at) ⌝ }
-{
-    let b = byte(s, at);
-    if b == 32 {
-        return expr(s, at + 1, 11);
-    }
-    Read::Bad
-}
-
 // `)` and LF.
 pub fn closing(s: &[u8], at: usize) -> Read
     ensures { λ r. ⌜ r ≡ closed (now (s .entry)) at ⌝ }
@@ -80,84 +67,111 @@ pub fn closing(s: &[u8], at: usize) -> Read
     Read::Bad
 }
 
-// The rest of a line after `(let`.
-fn let_line(s: &[u8], at: usize) -> LineRead
-    ensures { λ r. ⌜ r ≡ lineBy (λ l. at + 1) (readLet (now (s .entry)) at) ⌝ }
+// A space, a word, and the end of the line.
+pub fn one_word(s: &[u8], at: usize) -> NameRead
+    ensures { λ r. ⌜ r ≡ namedAt (at + 1) (one readWord (λ w. w) (now (s .entry)) at) ⌝ }
 {
     let w = word_slot(s, at);
     let WordRead::Is(code, n) = w else {
-        return LineRead::Bad;
-    };
-    let x = expr_slot(s, n);
-    let Read::At(m) = x else {
-        return LineRead::Bad;
-    };
-    let c = closing(s, m);
-    let Read::At(next) = c else {
-        return LineRead::Bad;
-    };
-    let name = NameAt {
-        code,
-        from: at + 1,
-        end: n,
-    };
-    let form = LineForm::Let(name, n + 1);
-    LineRead::Is(LineAt { form, next })
-}
-
-// The rest of a line after `(show`.
-fn show_line(s: &[u8], at: usize) -> LineRead
-    ensures { λ r. ⌜ r ≡ lineBy (λ l. at + 1) (readShow (now (s .entry)) at) ⌝ }
-{
-    let w = word_slot(s, at);
-    let WordRead::Is(code, n) = w else {
-        return LineRead::Bad;
+        return NameRead::Not;
     };
     let c = closing(s, n);
     let Read::At(next) = c else {
-        return LineRead::Bad;
+        return NameRead::Not;
     };
     let name = NameAt {
         code,
         from: at + 1,
         end: n,
     };
-    let form = LineForm::Show(name);
-    LineRead::Is(LineAt { form, next })
+    NameRead::Is(name, next)
 }
 
-// The codes of the words let and show.
-pub const LET: u64 = 16633;
-
-pub const SHOW: u64 = 973937;
-
-// The rest of a line that opens with the word of this code.
-fn line_of(s: &[u8], code: u64, at: usize) -> LineRead
-    ensures { λ r. ⌜ r ≡ lineBy (λ l. at + 1) (lineOf (now (s .entry)) code at) ⌝ }
+// A space, a word, and the space before the next part.
+fn first_word(s: &[u8], at: usize) -> NameRead
+    ensures { λ r. ⌜ r ≡ namedAt (at + 1) (first readWord (λ w. w) (now (s .entry)) at) ⌝ }
 {
-    match code {
-        LET => let_line(s, at),
-        SHOW => show_line(s, at),
-        _ => LineRead::Bad,
+    let w = word_slot(s, at);
+    let WordRead::Is(code, n) = w else {
+        return NameRead::Not;
+    };
+    let b = byte(s, n);
+    if b == 32 {
+        let name = NameAt {
+            code,
+            from: at + 1,
+            end: n,
+        };
+        return NameRead::Is(name, n + 1);
     }
+    NameRead::Not
 }
 
-// The line at a place, of at most 200 bytes: a let's word stands 5 places on, a show's 6.
-pub fn line(s: &[u8], at: usize) -> LineRead
-    ensures { λ r. ⌜ r ≡ lineBy (λ l. at + wordPlace l) (readLine (now (s .entry)) at) ⌝ }
+// Which line stands at a place, by the word that opens it.
+pub fn line_head(s: &[u8], at: usize) -> LineHead
+    ensures { λ r. ⌜ r ≡ lineHead at (readBegun (now (s .entry)) at) ⌝ }
 {
     let k = opening(s, at);
     let WordRead::Is(code, n) = k else {
-        return LineRead::Bad;
+        return LineHead::Bad;
     };
-    let r = line_of(s, code, n);
-    let LineRead::Is(l) = r else {
-        return LineRead::Bad;
-    };
-    if 200 < l.next {
-        if at < l.next - 200 {
-            return LineRead::Bad;
+    match code {
+        words::LET => {
+            let r = first_word(s, n);
+            match r {
+                NameRead::Is(name, value) => LineHead::Let(name, value),
+                NameRead::Not => LineHead::Bad,
+            }
+        }
+        words::SHOW => {
+            let r = one_word(s, n);
+            match r {
+                NameRead::Is(name, next) => LineHead::Show(name, next),
+                NameRead::Not => LineHead::Bad,
+            }
+        }
+        _ => LineHead::Bad,
+    }
+}
+
+// Whether a line that stands at `at` has at most 200 bytes, where the next one stands at `next`.
+pub fn is_short(at: usize, next: usize) -> bool
+    ensures { λ r. ⌜ r ≡ leb next (at + 200) ⌝ }
+{
+    if 200 < next {
+        return next - 200 <= at;
+    }
+    true
+}
+
+// The end of a line of at most 200 bytes.
+fn short_end(at: usize, next: usize) -> Read
+    ensures { λ r. ⌜ r ≡ shortEnd at next ⌝ }
+{
+    if is_short(at, next) {
+        return Read::At(next);
+    }
+    Read::Bad
+}
+
+// The place after the line at a place.
+pub fn line_end(s: &[u8], at: usize) -> Read
+    ensures { λ r. ⌜ r ≡ place (readLine (now (s .entry)) at) ⌝ }
+{
+    let h = line_head(s, at);
+    match h {
+        LineHead::Bad => Read::Bad,
+        LineHead::Show(_, next) => short_end(at, next),
+        LineHead::Let(_, value) => {
+            let x = expr(s, value, 11);
+            let Read::At(n) = x else {
+                return Read::Bad;
+            };
+            let c = closing(s, n);
+            let Read::At(next) = c else {
+                return Read::Bad;
+            };
+            short_end(at, next)
         }
     }
-    LineRead::Is(l)
 }

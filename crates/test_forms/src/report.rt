@@ -1,14 +1,15 @@
 // What is found in a sheet: whether it is of the grammar, and then each line's place and parts.
+use crate::text::double;
 use crate::text::word;
-use crate::tree::number;
 use crate::tree::tree;
+use sheets::expr::Read;
 use sheets::form::FormRead;
 use sheets::form::form;
 use sheets::head::HeadRead;
 use sheets::head::head;
-use sheets::lines::LineForm;
-use sheets::lines::LineRead;
-use sheets::lines::line;
+use sheets::lines::LineHead;
+use sheets::lines::line_end;
+use sheets::lines::line_head;
 use test_cases::print::decimal;
 use test_cases::print::put;
 
@@ -54,9 +55,9 @@ fn first_line(s: &[u8]) -> usize {
             next
         }
         HeadRead::Custom(radius, flattening, next) => {
-            number(s, radius);
+            double(radius);
             put(b" ");
-            number(s, flattening);
+            double(flattening);
             put(b"\n");
             next
         }
@@ -66,24 +67,24 @@ fn first_line(s: &[u8]) -> usize {
 // Another line: the place of the next one.
 fn other_line(s: &[u8], at: usize) -> usize {
     decimal(at);
-    let r = line(s, at);
-    let LineRead::Is(l) = r else {
-        put(b" ?\n");
-        return at;
-    };
-    let form = l.form;
-    match form {
-        LineForm::Let(name, value) => {
+    let h = line_head(s, at);
+    match h {
+        LineHead::Bad => put(b" ?"),
+        LineHead::Let(name, value) => {
             put(b" let ");
             word(name.code);
             put(b" ");
             tree(s, value, 11);
         }
-        LineForm::Show(name) => {
+        LineHead::Show(name, _) => {
             put(b" show ");
             word(name.code);
         }
     }
     put(b"\n");
-    l.next
+    let r = line_end(s, at);
+    match r {
+        Read::At(next) => next,
+        Read::Bad => at,
+    }
 }

@@ -20,7 +20,7 @@ fn leaf(s: &[u8], at: usize) {
 }
 
 // A number.
-pub fn number(s: &[u8], at: usize) {
+fn number(s: &[u8], at: usize) {
     let q = sheets::num::double(s, at);
     match q {
         DoubleRead::Is(x, _) => double(x),

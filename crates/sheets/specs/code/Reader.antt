@@ -1,6 +1,7 @@
 -- A reader of sheets, by places: the byte at a place is 0 past the end, which is no token's byte.
 -- No part of what must be believed: that it reads exactly what the grammar says is proved (proofs/SheetLaws.antt), and the code is proved against it.
 use Prim.Native.Nat.{ℕ, zero, suc, _+_}
+use Prim.Native.String.{String}
 use mathlib.Core.Bool.{Bool, true, false}
 use mathlib.Core.List.{List, [], _∷_}
 use lib.Dec.{eqb, leb}
@@ -11,7 +12,7 @@ use Rattle.sheets.specs.Grammar.{allowed, after}
 pub use Rattle.sheets.specs.Grammar.{Form, formed, badLine}
 use Rattle.sheets.specs.code.Codes.{letter, wordChar, digit, codeFrom, codeOf}
 
-infixr 20 _then_ _thenᶠ_
+infixr 20 _then_ _or_ _thenᶠ_
 -- what was read and the place after it
 pub data Got (A : Type 0) : Type 0 where
   none : Got A
@@ -109,23 +110,79 @@ spaced f s at = orElse (eqb (getD s at 0) 32) (λ n. f (n + 1)) nothing at
 unfoldable pub closing : {A : Type 0} → A → List ℕ → ℕ → Got A
 closing x s at = orElse (eqb (getD s at 0) 41) (orElse (eqb (getD s (at + 1) 0) 10) (λ n. got x (n + 2)) nothing) nothing at
 
-unfoldable pub readLet : List ℕ → ℕ → Got Line
-readLet s at = spaced (readWord s) s at then (λ w n. spaced (readExpr 11 s) s n then (λ x m. closing (let-line w x) s m))
-
-unfoldable pub readShow : List ℕ → ℕ → Got Line
-readShow s at = spaced (readWord s) s at then (λ w n. closing (show-line w) s n)
-
 -- at most 200 bytes
 unfoldable pub limit : {A : Type 0} → ℕ → Got A → Got A
 limit at none = none
 limit at (got x n) = orElse (leb n (at + 200)) (got x) nothing n
 
--- the rest of a line that opens with the word of this code
-unfoldable pub lineOf : List ℕ → ℕ → ℕ → Got Line
-lineOf s k = orElse (eqb k (codeOf (ascii "let"))) (readLet s) (orElse (eqb k (codeOf (ascii "show"))) (readShow s) nothing)
+-- a part and what follows it; the first part and the space before the next; one part, or two, and the end
+unfoldable pub more : {A B : Type 0} → (List ℕ → ℕ → Got B) → (B → List ℕ → ℕ → Got A) → List ℕ → ℕ → Got A
+more f k s at = spaced (f s) s at then (λ v n. k v s n)
+
+abbrev pub first : {A B : Type 0} → (List ℕ → ℕ → Got B) → (B → A) → List ℕ → ℕ → Got A
+first f begun = more f (λ v. spaced (got (begun v)))
+
+abbrev pub one : {A B : Type 0} → (List ℕ → ℕ → Got B) → (B → A) → List ℕ → ℕ → Got A
+one f line = more f (λ v. closing (line v))
+
+abbrev pub two : {A B C : Type 0} → (List ℕ → ℕ → Got B) → (List ℕ → ℕ → Got C) → (B → C → A) → List ℕ → ℕ → Got A
+two f g line = more f (λ v. one g (line v))
+
+-- this word
+unfoldable pub readThe : Word → List ℕ → ℕ → Got (Unit {0})
+readThe v s at = readWord s at then (λ w n. orElse (eqb (codeOf w) (codeOf v)) (got tt) nothing n)
+
+unfoldable pub _or_ : {A : Type 0} → Got A → Got A → Got A
+none or o = o
+(got x n) or o = got x n
+
+-- a line's word, and what reads on behind it
+pub record Row (A : Type 0) : Type 0 where
+  pub opener : Word
+  pub parts : List ℕ → ℕ → Got A
+
+abbrev pub row : {A : Type 0} → String → (List ℕ → ℕ → Got A) → Row A
+row k f = record { opener = ascii k; parts = f }
+
+-- by the row of the word with this code
+unfoldable pub fromRows : {A : Type 0} → List (Row A) → ℕ → List ℕ → ℕ → Got A
+fromRows [] k s at = none
+fromRows (r ∷ rs) k s at = orElse (eqb k (codeOf (r .opener))) (r .parts s) (fromRows rs k s) at
+
+unfoldable pub readRows : {A : Type 0} → List (Row A) → List ℕ → ℕ → Got A
+readRows rs s at = opening s at then (λ k n. fromRows rs (codeOf k) s n)
+
+-- ---- line 1
+
+unfoldable pub headRows : List (Row Head)
+headRows = row "ellipsoid" (λ s at. one (readThe (ascii "wgs84")) (λ u. wgs84) s at or two readNum readNum custom s at) ∷ []
+
+unfoldable pub readHead : List ℕ → Got Head
+readHead s = limit 0 (readRows headRows s 0)
+
+-- ---- the lines after it
+
+-- a line up to a let's expression, or whole: every other form is read to its end
+pub data Begun : Type 0 where
+  let-word : Word → Begun
+  whole : Line → Begun
+
+unfoldable pub lineRows : List (Row Begun)
+lineRows =
+    row "let" (first readWord let-word)
+    ∷ row "show" (one readWord (λ w. whole (show-line w)))
+    ∷ []
+
+unfoldable pub readBegun : List ℕ → ℕ → Got Begun
+readBegun s at = readRows lineRows s at
+
+-- what is left of a line: a let's expression and the end
+unfoldable pub rest : List ℕ → Begun → ℕ → Got Line
+rest s (let-word w) n = readExpr 11 s n then (λ x m. closing (let-line w x) s m)
+rest s (whole l) n = got l n
 
 unfoldable pub readLine : List ℕ → ℕ → Got Line
-readLine s at = limit at (opening s at then (λ k n. lineOf s (codeOf k) n))
+readLine s at = limit at (readBegun s at then rest s)
 
 -- the line at a place, if it may stand there
 unfoldable pub permitted : ℕ → Got Line → Got Line
@@ -134,21 +191,6 @@ permitted p (got l n) = orElse (allowed p l) (got l) nothing n
 
 abbrev pub readIn : ℕ → List ℕ → ℕ → Got Line
 readIn p s at = permitted p (readLine s at)
-
--- ---- line 1
-
-unfoldable pub readCustom : List ℕ → ℕ → Got Head
-readCustom s at = spaced (readNum s) s at then (λ q n. spaced (readNum s) s n then (λ r m. closing (custom q r) s m))
-
-unfoldable pub wgsOr : Got Word → List ℕ → ℕ → Got Head
-wgsOr none s at = readCustom s at
-wgsOr (got w n) s at = orElse (eqb (codeOf w) (codeOf (ascii "wgs84"))) (closing wgs84 s) nothing n
-
-unfoldable pub headOf : List ℕ → ℕ → ℕ → Got Head
-headOf s k = orElse (eqb k (codeOf (ascii "ellipsoid"))) (λ n. wgsOr (spaced (readWord s) s n) s n) nothing
-
-unfoldable pub readHead : List ℕ → Got Head
-readHead s = limit 0 (opening s 0 then (λ k n. headOf s (codeOf k) n))
 
 -- ---- sheets
 
@@ -175,5 +217,5 @@ readSheet s = sheetStep (readHead s) (readLines 95 2 0 s)
 
 -- `unfolding reading` under a theorem's signature has the reader computed.
 unfoldable pub reading : Bool
-unfolding letter wordChar digit codeFrom _then_ charsIf chars wordIf readWord partEnd partIf wholeStep readWhole signIf readNum argsStep readArgs orNum readLeaf exprStep readExpr orElse opening spaced closing readLet readShow limit lineOf readLine allowed after permitted readCustom wgsOr headOf readHead _thenᶠ_ linesStep readLines sheetStep readSheet
+unfolding letter wordChar digit codeFrom _then_ charsIf chars wordIf readWord partEnd partIf wholeStep readWhole signIf readNum argsStep readArgs orNum readLeaf exprStep readExpr orElse opening spaced closing limit more readThe _or_ fromRows readRows headRows readHead lineRows readBegun rest readLine allowed after permitted _thenᶠ_ linesStep readLines sheetStep readSheet
 reading = true

@@ -1,14 +1,14 @@
 -- The contracts' views: what the code answers, said of what the reader of Reader.antt reads.
 -- No part of what must be believed: they only tie the code to the reader, and what the code does for a sheet is said by the grammar and the claim.
 use Prim.Native.Nat.{ℕ, _+_, _-_, _*_, _≤_}
+use Prim.Native.String.{String}
 use mathlib.Core.Path.{_≡_}
 use mathlib.Core.List.{List}
 use lib.ListN.{length, getD}
-use Rattle.sheets.specs.Text.{Word}
+use Rattle.sheets.specs.Text.{Word, ascii}
 use Rattle.sheets.specs.Trees.{Num, decimalFrom, numDigits, Line, let-line, show-line, Head, wgs84, custom, Sheet}
-use Rattle.sheets.specs.Grammar.{printNum}
 use Rattle.sheets.specs.code.Codes.{codeOf}
-use Rattle.sheets.specs.code.Reader.{Got, none, got, closing, Form, formed, badLine}
+use Rattle.sheets.specs.code.Reader.{Got, none, got, closing, limit, Begun, let-word, whole, Form, formed, badLine}
 use Rattle.sheets.specs.Limits.{numValue}
 use Rattle.sheets.specs.declared.bytes.WordRead.{WordRead}
 use Rattle.sheets.specs.declared.num.DigitsRead.{DigitsRead}
@@ -17,8 +17,8 @@ use Rattle.sheets.specs.declared.num.NumRead.{NumRead}
 use Rattle.sheets.specs.declared.num.DoubleRead.{DoubleRead}
 use Rattle.sheets.specs.declared.expr.Read.{Read}
 use Rattle.sheets.specs.declared.lines.NameAt.{NameAt}
-use Rattle.sheets.specs.declared.lines.LineForm.{LineForm}
-use Rattle.sheets.specs.declared.lines.LineRead.{LineRead}
+use Rattle.sheets.specs.declared.lines.NameRead.{NameRead}
+use Rattle.sheets.specs.declared.lines.LineHead.{LineHead}
 use Rattle.sheets.specs.declared.head.HeadRead.{HeadRead}
 use Rattle.sheets.specs.declared.form.FormRead.{FormRead}
 
@@ -45,6 +45,10 @@ place (got x n) = Read.At n
 -- the place after `)` and LF
 abbrev pub closed : List ℕ → ℕ → Read
 closed s at = place (closing {A = Unit {0}} tt s at)
+
+-- the place n after a line that stands at a place, if it has at most 200 bytes
+abbrev pub shortEnd : ℕ → ℕ → Read
+shortEnd at n = place {A = Unit {0}} (limit at (got tt n))
 
 -- a word by its code
 unfoldable pub coded : Got Word → WordRead
@@ -74,26 +78,26 @@ doubled (got q n) = DoubleRead.Is (numValue q) n
 abbrev pub nameAt : Word → ℕ → NameAt
 nameAt w at = record { code = codeOf w; from = at; end = at + length w }
 
--- the parts of a line whose word stands at a place: the word, and a let's expression one place after the word's end
-unfoldable pub partsAt : Line → ℕ → LineForm
-partsAt (let-line w x) at = LineForm.Let (nameAt w at) (at + length w + 1)
-partsAt (show-line w) at = LineForm.Show (nameAt w at)
+unfoldable pub namedAt : ℕ → Got Word → NameRead
+namedAt at none = NameRead.Not
+namedAt at (got w n) = NameRead.Is (nameAt w at) n
 
--- the parts of a line, whose word stands where `word` says, and the place of the next line
-unfoldable pub lineBy : (Line → ℕ) → Got Line → LineRead
-lineBy word none = LineRead.Bad
-lineBy word (got l n) = LineRead.Is (record { form = partsAt l (word l); next = n })
+-- the place behind `(`, the word that opens the line at a place, and a space
+abbrev pub behind : String → ℕ → ℕ
+behind k at = at + length (ascii k) + 2
 
--- how far from its line's place a word stands: behind `(let ` or `(show `
-abbrev pub wordPlace : Line → ℕ
-wordPlace (let-line w x) = 5
-wordPlace (show-line w) = 6
+-- the head of the line at a place: its word, and the place of its expression or of the next line; a let is never read whole
+unfoldable pub lineHead : ℕ → Got Begun → LineHead
+lineHead at none = LineHead.Bad
+lineHead at (got (let-word w) n) = LineHead.Let (nameAt w (behind "let" at)) n
+lineHead at (got (whole (show-line w)) n) = LineHead.Show (nameAt w (behind "show" at)) n
+lineHead at (got (whole (let-line w x)) n) = LineHead.Bad
 
--- line 1: the places of its two numbers, where it has them, the first and one after its end; and the place of the next line
-unfoldable pub headBy : ℕ → Got Head → HeadRead
-headBy first none = HeadRead.Bad
-headBy first (got wgs84 n) = HeadRead.Wgs n
-headBy first (got (custom p q) n) = HeadRead.Custom first (first + length (printNum p) + 1) n
+-- line 1: its two numbers as doubles, where it has them, and the place of the next line
+unfoldable pub headOf : Got Head → HeadRead
+headOf none = HeadRead.Bad
+headOf (got wgs84 n) = HeadRead.Wgs n
+headOf (got (custom p q) n) = HeadRead.Custom (numValue p) (numValue q) n
 
 -- ---- the sheet
 

@@ -4,7 +4,7 @@ use Prim.Native.Nat.{ℕ, zero, suc, _+_, _≤_}
 use mathlib.Core.Path.{_≡_}
 use mathlib.Core.Bool.{Bool, true, false}
 use mathlib.Core.List.{List, _∷_, map}
-use lib.Dec.{eqb}
+use lib.Dec.{eqb, leb}
 use mir.Val.{hasKey}
 use lib.ListN.{length, getD, take}
 use Rattle.frames.specs.declared.ellipsoid.Ellipsoid.{Ellipsoid}
@@ -12,16 +12,17 @@ use Rattle.sheets.specs.Text.{Word}
 use Rattle.sheets.specs.Trees.{Expr, Exprs, Line, let-line, show-line, numbered}
 use Rattle.sheets.specs.Grammar.{IsWord}
 use Rattle.sheets.specs.code.Codes.{codeOf}
-use Rattle.sheets.specs.code.Reader.{Got, got, readArgs, readExpr, formed, readLines}
+use Rattle.sheets.specs.code.Reader.{Got, got, readArgs, readExpr, Form, formed, badLine, readLines}
 use Rattle.sheets.specs.Kinds.{Kind, kindCode}
 use Rattle.sheets.specs.Table.{when}
 use Rattle.sheets.specs.Names.{Known, lookup, barred, readingWords}
 use Rattle.sheets.specs.code.Newest.{searchFrom, Newest}
 use Rattle.sheets.specs.code.KindCodes.{keyFrom, kindOr255}
-use Rattle.sheets.specs.Refusals.{name, Refusal, fault, refusalNumber, Checked, fine, bad, thenᶜ, known?}
+use Rattle.sheets.specs.Refusals.{name, Refusal, form, fault, refusalNumber, Checked, fine, bad, thenᶜ, known?}
 use Rattle.sheets.specs.Check.{kindOfExpr, kindsOfExprs, Walked, passes, refuses, stepsᶜ, startᶜ}
 use Rattle.sheets.specs.Machine.{surface}
 use Rattle.sheets.specs.Answers.{Verdict, admitted, refused}
+use Rattle.sheets.specs.declared.form.FormRead.{FormRead}
 use Rattle.sheets.specs.declared.kind_walk.KindRead.{KindRead}
 use Rattle.sheets.specs.declared.kind_walk.KeyRead.{KeyRead}
 use Rattle.sheets.specs.declared.admit.LineKind.{LineKind}
@@ -61,9 +62,10 @@ unfoldable pub kindSaid : Checked Kind → ℕ → KindRead
 kindSaid (fine k) n = KindRead.Is (kindCode k) n
 kindSaid (bad f) n = KindRead.Refused (refusalNumber (fault f))
 
--- r answers the expression that the reader reads at a place
+-- r answers the expression that the reader reads at a place, and refuses where it reads none
 pub record ExprHas (s : List ℕ) (at depth : ℕ) (ps : Known Kind) (r : KindRead) : Type 0 where
   pub is : (x : Expr) (n : ℕ) → readExpr depth s at ≡ got x n → r ≡ kindSaid (kindOfExpr x ps) n
+  pub read : (k n : ℕ) → r ≡ KindRead.Is k n → (x : Expr) × (readExpr depth s at ≡ got x n)
 
 -- the same where no bracket stands
 pub record LeafHas (s : List ℕ) (at : ℕ) (ps : Known Kind) (r : KindRead) : Type 0 where
@@ -74,9 +76,10 @@ unfoldable pub keySaid : ℕ → Checked (List Kind) → ℕ → KeyRead
 keySaid key (fine ks) n = KeyRead.Is (keyFrom key ks) n
 keySaid key (bad f) n = KeyRead.Refused (refusalNumber (fault f))
 
--- r answers the arguments that the reader reads at a place, at most `left`
+-- r answers the arguments that the reader reads at a place, at most `left`, and refuses where it reads none
 pub record ArgsHave (s : List ℕ) (at depth left key : ℕ) (ps : Known Kind) (r : KeyRead) : Type 0 where
   pub is : (xs : Exprs) (n : ℕ) → readArgs (readExpr depth s) left s at ≡ got xs n → r ≡ keySaid key (kindsOfExprs xs ps) n
+  pub read : (k n : ℕ) → r ≡ KeyRead.Is k n → (xs : Exprs) × (readArgs (readExpr depth s) left s at ≡ got xs n)
 
 -- ---- lines
 
@@ -98,9 +101,19 @@ unfoldable pub lineSaid : Word → Checked Kind → ℕ → LineKind
 lineSaid w (fine k) n = LineKind.Is (codeOf w) (kindCode k) n
 lineSaid w (bad f) n = LineKind.Refused (refusalNumber (fault f))
 
--- r answers the line that the reader reads
+-- r answers the line that the reader reads, and refuses where it reads none
 pub record LineHas (o : Got Line) (ps : Known Kind) (r : LineKind) : Type 0 where
   pub is : (l : Line) (n : ℕ) → o ≡ got l n → r ≡ lineSaid (lineWord l) (lineKind l ps) n
+  pub read : (c k n : ℕ) → r ≡ LineKind.Is c k n → (l : Line) × (o ≡ got l n)
+
+-- r answers what the reader reads of a line whose word, of this code, it has read
+pub record WordHas (code : ℕ) (o : Word → Got Line) (ps : Known Kind) (r : LineKind) : Type 0 where
+  pub is : (w : Word) → IsWord w → codeOf w ≡ code → LineHas (o w) ps r
+
+-- refusal 3 for a line at a place that has more than 200 bytes
+unfoldable pub shortKind : ℕ → LineKind → LineKind
+shortKind at (LineKind.Refused number) = LineKind.Refused number
+shortKind at (LineKind.Is c k n) = when (leb n (at + 200)) (LineKind.Is c k n) (LineKind.Refused 3)
 
 -- r tells whether the word with this code cannot be given
 pub record BarredWord (code : ℕ) (ps : Known Kind) (r : Bool) : Type 0 where
@@ -120,9 +133,15 @@ unfoldable pub Walks : Walked → Ellipsoid → ℕ → Admission → Type 0
 Walks (passes cs) e at a = Passing (255 ∷ cs) e at a
 Walks (refuses f j) e at a = Refusing (fault f) j a
 
--- a answers the lines from line 2, which stands at this place, of a sheet of so many lines
-pub record LinesWalk (s : List ℕ) (at lines : ℕ) (e : Ellipsoid) (a : Admission) : Type 0 where
-  pub is : (ls : List Line) → readLines 95 2 0 s at ≡ formed ls → lines ≡ length ls + 1 → Walks (stepsᶜ (numbered 2 ls) startᶜ) e at a
+-- a answers the lines from line 2, which stands at this place, by what the reader makes of them
+unfoldable pub LinesWalk : Form (List Line) → Ellipsoid → ℕ → Admission → Type 0
+LinesWalk (formed ls) e at a = Walks (stepsᶜ (numbered 2 ls) startᶜ) e at a
+LinesWalk (badLine j) e at a = Refusing form j a
+
+-- the refusal of a line, unless the form pass met a line that is not of the grammar
+unfoldable pub unlessBad : FormRead → ℕ → ℕ → Outcome
+unlessBad (FormRead.Bad j) number line = Outcome.Refuses 3 j
+unlessBad (FormRead.Fine n) number line = Outcome.Refuses number line
 
 -- a answers a whole sheet: refusals 3 to 6, or the kind code of each line, the ellipsoid and the place of line 2
 unfoldable pub Admits : List ℕ → Verdict → Admission → Type 0

@@ -1,46 +1,57 @@
 -- `sheets::admit::line_kind` meets its contract. Assumes nothing.
-use Rattle.sheets.proofs.LineKindSteps.{line-no-word, line-let, line-show, line-other}
 use borrow.Author.Needs.{needs}
+use Rattle.sheets.specs.code.Reader.{rest}
+use Rattle.sheets.proofs.LineKindSteps.{line-nothing, line-word}
+use Rattle.sheets.proofs.LineSteps.{head-bad, head-let, head-show}
 use Rattle.sheets.proofs.admit.line_kind.Statement.{statement}
 use Rattle.sheets.proofs.admit.line_kind.Tie as tie
 
-opening-requires : tie.Need-opening-requires
-opening-requires c κs = search needs
-
-enum-known-w : tie.Need-enum-known-w
-enum-known-w c = search needs
+line-head-requires : tie.Need-line-head-requires
+line-head-requires c κs = search needs
 
 enum-told : tie.Need-enum-told
 enum-told c = search needs
 
-returns : tie.Need-returns
-returns c = record { is = λ ps st. line-no-word _ _ _ (c .before .before .opening .ensures) ps _ (c .enum-told .given .1) }
+enum-known-h : tie.Need-enum-known-h
+enum-known-h c = search needs
 
 let-kind-requires : tie.Need-let-kind-requires
 let-kind-requires c κs = search needs
 
-show-kind-requires : tie.Need-show-kind-requires
-show-kind-requires c κs = search needs
+short-kind-requires : tie.Need-short-kind-requires
+short-kind-requires c κs = search needs
+
+enum-known-h-2 : tie.Need-enum-known-h-2
+enum-known-h-2 c = search needs
+
+known-kind-requires : tie.Need-known-kind-requires
+known-kind-requires c κs = search needs
+
+short-kind-requires-2 : tie.Need-short-kind-requires-2
+short-kind-requires-2 c κs = search needs
+
+returns : tie.Need-returns
+returns c = record { is = λ ps st. line-nothing _ (head-bad _ _ _ (c .before .before .line-head .ensures) (c .enum-told .given .1)) ps _ }
 
 returns-2 : tie.Need-returns-2
-returns-2 c = record { is = λ ps st. line-let _ _ _ (c .before .before .before .before .before .opening .ensures) ps _ _ _ (c .before .before .before .w .given .1) (c .before .match2 .keys1) (c .let-kind .ensures .is ps st) }
+unfolding rest
+returns-2 c = record { is = λ ps st. line-word _ _ ps _ _ (head-let _ _ _ (c .before .before .before .before .before .line-head .ensures) _ _ (c .before .before .before .h .given .1)) _ (c .before .let-kind .ensures .is ps st) _ (c .short-kind .ensures) }
 
 returns-3 : tie.Need-returns-3
-returns-3 c = record { is = λ ps st. line-show _ _ _ (c .before .before .before .before .before .opening .ensures) ps _ _ _ (c .before .before .before .w .given .1) (c .before .match2 .keys2) (c .show-kind .ensures .is ps st) }
-
-returns-4 : tie.Need-returns-4
-returns-4 c = record { is = λ ps st. line-other _ _ _ (c .before .before .before .before .opening .ensures) ps _ _ _ (c .before .before .w .given .1) (c .match2 .rest .0 .1) (c .match2 .rest .1) }
+returns-3 c = record { is = λ ps st. line-word _ _ ps _ _ (head-show _ _ _ (c .before .before .before .before .before .line-head .ensures) _ _ (c .before .before .before .h2 .given .1)) _ (c .before .known-kind .ensures .is ps st) _ (c .short-kind2 .ensures) }
 
 pub line-kind-spec : {M : Type 1} → statement M
 line-kind-spec =
     tie.close
     (tie.spec
-    opening-requires
-    enum-known-w
+    line-head-requires
     enum-told
-    returns
+    enum-known-h
     let-kind-requires
-    show-kind-requires
+    short-kind-requires
+    enum-known-h-2
+    known-kind-requires
+    short-kind-requires-2
+    returns
     returns-2
-    returns-3
-    returns-4)
+    returns-3)
