@@ -54,6 +54,25 @@ fn frames(lines: usize) -> String {
     HEAD.to_string() + "(let f (enu (geo (m 4300000) (m 600000) (m 4600000))))\n" + &"(show f)\n".repeat(lines - 2)
 }
 
+// A site's sheet of 96 lines with lines changed: what it is refused for, and at which line.
+fn refused() -> Vec<(String, (u32, u32))> {
+    let site = site(96);
+    let with = |changed: &[(usize, &str)]| {
+        let lines = site.split_inclusive('\n').zip(1..);
+        lines.map(|(line, i)| changed.iter().find(|(at, _)| *at == i).map_or(line, |(_, other)| *other)).collect::<String>()
+    };
+    let (bad, unknown, unkind) = ("(show p00 )\n", "(show nobody)\n", "(let x (deg c00))\n");
+    vec![
+        (with(&[(2, bad)]), (3, 2)),
+        (with(&[(96, bad)]), (3, 96)),
+        (with(&[(1, "(ellipsoid 1 298)\n")]), (4, 1)),
+        (with(&[(2, unknown)]), (5, 2)),
+        (with(&[(96, unknown)]), (5, 96)),
+        (with(&[(96, unkind)]), (6, 96)),
+        (with(&[(2, unknown), (96, bad)]), (3, 96)),
+    ]
+}
+
 const READINGS: [f64; 16] = [0.0, 1.5, -2.25, 3.0, 4.75, 5.0, -6.5, 7.0, 8.0, 9.0, 10.0, 11.0, 12.0, 13.0, 14.0, 15.0];
 
 // What an answer and a buffer come to.
@@ -151,8 +170,27 @@ fn main() {
             }
         }
     }
+    let refused = refused();
+    let mut best_refused = vec![[f64::INFINITY; 4]; refused.len()];
+    for _ in 0..PASSES {
+        for ((text, answer), least) in refused.iter().zip(&mut best_refused) {
+            assert_eq!(sheet::check(text.as_bytes(), &mut [0; 96]), *answer, "a sheet to be refused");
+            for (x, t) in least.iter_mut().zip(times("a refused sheet", text.as_bytes())) {
+                *x = x.min(t);
+            }
+        }
+    }
     println!("microseconds a call, the best of {PASSES} passes of {ROUNDS} rounds of {CALLS} calls");
     for ((name, make), row) in SORTS.into_iter().zip(&best) {
         table(name, make, row);
+    }
+    println!("a site's sheet of 96 lines, refused");
+    println!("  number line   check: Rust   Rattle  ratio     run: Rust   Rattle  ratio");
+    for ((_, (number, line)), t) in refused.iter().zip(&best_refused) {
+        print!("  {number:>6} {line:>4}");
+        for [a, b] in [[t[0], t[1]], [t[2], t[3]]] {
+            print!(" {:>13.3} {:>8.3} {:>6.2}", a / 1000.0, b / 1000.0, b / a);
+        }
+        println!();
     }
 }
