@@ -14,14 +14,14 @@ use Rattle.sheets.specs.Text.{_⌢_, lf}
 use Rattle.sheets.specs.Trees.{Num}
 use Rattle.sheets.specs.Grammar.{Each, sign, point, printNum, IsNum}
 use Rattle.sheets.specs.Limits.{numValue}
-use Rattle.sheets.specs.code.Codes.{wordChar, digit}
-use Rattle.sheets.specs.code.Reader.{Got, none, got, readNum}
-use Rattle.sheets.specs.code.Views.{doubled}
-use Rattle.sheets.specs.declared.num.DoubleRead.{DoubleRead}
-use Rattle.sheets.specs.declared.num.DoubleRead.the-variants.{Is, Not}
-use Rattle.sheets.proofs.Spans.{Spans, spans-append, spans-split, spans-end, spans-drop, drop-spans, holds-at}
-use Rattle.sheets.proofs.ReaderLaws.{byte-inside}
-use Rattle.sheets.proofs.TokenLaws.{Stops, NumAt, num-sound, num-complete}
+use Rattle.sheets.specs.code.reader.Codes.{wordChar, digit}
+use Rattle.sheets.specs.code.reader.Reader.{Got, none, got, readNum}
+use Rattle.sheets.specs.code.reader.Views.{doubled}
+use Rattle.sheets.specs.declared.reader.num.DoubleRead.{DoubleRead}
+use Rattle.sheets.specs.declared.reader.num.DoubleRead.the-variants.{Is, Not}
+use Rattle.sheets.proofs.reader.Spans.{Spans, spans-append, spans-split, spans-end, spans-drop, drop-spans, holds-at}
+use Rattle.sheets.proofs.reader.ReaderLaws.{byte-inside}
+use Rattle.sheets.proofs.reader.TokenLaws.{Stops, NumAt, num-sound, num-complete}
 use Rattle.boresheet.specs.declared.readings.Found.{Found}
 use Rattle.boresheet.specs.declared.readings.Readings.{Readings}
 use Rattle.boresheet.specs.Format.{hexNumber, HexDigit, hexadecimalFrom, Line, Lines, noReadings, ComesTo, all, short, bad, long}

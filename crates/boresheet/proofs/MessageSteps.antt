@@ -10,8 +10,8 @@ use lib.ListN.{length, getD, take, drop, set, length-append}
 use lib.Seq.{drop-cons, drop-length, take-append-seam}
 use borrow.Author.Tests.{lt-ltb, le-ltb, eq-eqb, ne-eqb}
 use Rattle.sheets.specs.Text.{ascii, _⌢_, lf}
-use Rattle.sheets.specs.code.Writing.{writes, Written}
-use Rattle.sheets.proofs.WritingLaws.{written-then, laid-first, length-writes}
+use Rattle.sheets.specs.code.run.Writing.{writes, Written}
+use Rattle.sheets.proofs.run.WritingLaws.{written-then, laid-first, length-writes}
 use Rattle.boresheet.specs.Messages.{decimalIf, decimal, refusalName, placeText, refusalLine}
 
 -- ---- a text, byte by byte

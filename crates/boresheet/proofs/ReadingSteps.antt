@@ -9,9 +9,9 @@ use lib.ListN.{length, getD, take, set}
 use lib.Seq.{length-take-le, take-all, take-suc-set}
 use lib.Ieee.{Float, binary64, ofBits}
 use borrow.Author.Tests.{eq-eqb, ne-eqb, le-leb, lt-leb}
-use Rattle.sheets.specs.code.Reader.{readNum}
-use Rattle.sheets.specs.code.Views.{doubled}
-use Rattle.sheets.specs.declared.num.DoubleRead.{DoubleRead}
+use Rattle.sheets.specs.code.reader.Reader.{readNum}
+use Rattle.sheets.specs.code.reader.Views.{doubled}
+use Rattle.sheets.specs.declared.reader.num.DoubleRead.{DoubleRead}
 use Rattle.boresheet.specs.declared.readings.Found.{Found}
 use Rattle.boresheet.specs.declared.readings.Readings.{Readings}
 use Rattle.boresheet.specs.Format.{hexNumber, noReadings}

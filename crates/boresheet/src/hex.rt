@@ -1,7 +1,7 @@
 // Sixteen hexadecimal digits at a place of a file, and the double whose bits they are.
 use numbers::float::double;
-use sheets::bytes::byte;
-use sheets::num::DoubleRead;
+use sheets::reader::bytes::byte;
+use sheets::reader::num::DoubleRead;
 ghost use mathlib.Core.Path.{_≡_};
 ghost use Prim.Native.Nat.{_+_, _≤_};
 ghost use Rattle.boresheet.specs.Format.{hexNumber};

@@ -4,7 +4,7 @@ ghost use mathlib.Core.List.{[], _∷_, _++_};
 ghost use Prim.Native.Nat.{_+_, _%_, _<_, _≤_};
 ghost use lib.ListN.{length, take};
 ghost use Rattle.io.specs.Counts.{Counts};
-ghost use Rattle.sheets.specs.code.Writing.{Written};
+ghost use Rattle.sheets.specs.code.run.Writing.{Written};
 ghost use Rattle.boresheet.specs.Messages.{decimal, refusalName, placeText, refusalLine, badLineText, shortText};
 
 // A text: the first bytes of an array, and how many they are.

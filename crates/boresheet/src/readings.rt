@@ -1,8 +1,8 @@
 // A file of readings: sixteen lines, each ended by LF, and nothing behind them. A line is a NUM as in a sheet, or the sixteen hexadecimal digits of a double's bits.
 use crate::hex::hex;
-use sheets::bytes::byte;
-use sheets::num::DoubleRead;
-use sheets::num::double;
+use sheets::reader::bytes::byte;
+use sheets::reader::num::DoubleRead;
+use sheets::reader::num::double;
 ghost use mathlib.Core.Path.{_≡_};
 ghost use Rattle.boresheet.specs.Format.{noReadings};
 ghost use Rattle.boresheet.specs.code.Readings.{endedAt, readingAt, readingsOf};

@@ -12,7 +12,7 @@ use Rattle.sheets.specs.Refusals.{Checked, fine, bad}
 use Rattle.sheets.specs.Check.{Stateᶜ, stepᶜ, Walked, passes, refuses, onwardᶜ, stepsᶜ, startᶜ, walk}
 use Rattle.sheets.specs.Machine.{Out, goes, stops, sticks, State, step, Ran, done, stopped, stuck, afterwards, onward, steps, start, machine}
 use Rattle.sheets.specs.Answers.{sized, ranged, Verdict, admitted, refused, ofWalked, ofRange, ofForm, ofSize, verdict, checkOf, lentKinds, CheckOwes, Tells, RunOf, lentRun, RunOwes}
-use Rattle.sheets.proofs.FormLaws.{bad-range}
+use Rattle.sheets.proofs.reader.FormLaws.{bad-range}
 use Rattle.sheets.specs.declared.answers.CheckAnswer.{CheckAnswer}
 use Rattle.sheets.specs.declared.answers.RunAnswer.{RunAnswer}
 

@@ -7,8 +7,8 @@ use Prim.Native.Nat.{ℕ}
 use lib.Ieee.{Float}
 use Rattle.frames.specs.declared.ellipsoid.Ellipsoid.{Ellipsoid}
 use Rattle.frames.specs.declared.frame.LocalFrame.{LocalFrame}
-use Rattle.sheets.specs.declared.value.Value.{Value}
-use Rattle.sheets.specs.declared.value.Value.the-variants.{Number}
+use Rattle.sheets.specs.declared.rows.value.Value.{Value}
+use Rattle.sheets.specs.declared.rows.value.Value.the-variants.{Number}
 use Rattle.sheets.specs.Text.{Word}
 use Rattle.sheets.specs.Trees.{Expr, Exprs, word-expr, num-expr, form-expr, nil, _▸_, Line, let-line, show-line}
 use Rattle.sheets.specs.Kinds.{Kind, number, kindOf, kindCode}
@@ -22,8 +22,8 @@ use Rattle.sheets.specs.Refusals.{Fault, name, kind, Checked, fine, bad,
 use Rattle.sheets.specs.Machine.{Out, goes, stops, sticks, after, then, orSticks, test, meet, made, result, provided, applyRow, eval, evals, State, rescoped, step, readings}
 use Rattle.sheets.specs.Check.{kindOfExpr, kindsOfExprs, Stateᶜ, noted, stepᶜ, readingKinds}
 use Rattle.sheets.specs.Claim.{All}
-use Rattle.sheets.proofs.FindKind.{given, mapped, find-kind}
-use Rattle.sheets.proofs.Kept.{Kept, kept}
+use Rattle.sheets.proofs.rows.FindKind.{given, mapped, find-kind}
+use Rattle.sheets.proofs.rows.Kept.{Kept, kept}
 use Rattle.sheets.proofs.Alike.{Each₂, Both?, Match, KnownLike, ScopeLike, lookup-like, give-like}
 
 -- what the machine came to and what the check found, where R holds of a result and what the check sees of it

@@ -10,30 +10,30 @@ use lib.Seq.{length-take-le}
 use lib.Ieee.{Float, nan}
 use borrow.Author.Tests.{eq-eqb, ne-eqb}
 use Rattle.frames.specs.declared.ellipsoid.Ellipsoid.{Ellipsoid}
-use Rattle.sheets.specs.declared.admit.Admission.{Admission}
-use Rattle.sheets.specs.declared.admit.Outcome.{Outcome}
+use Rattle.sheets.specs.declared.check.admit.Admission.{Admission}
+use Rattle.sheets.specs.declared.check.admit.Outcome.{Outcome}
 use Rattle.sheets.specs.Trees.{Sheet}
-use Rattle.sheets.specs.code.Slots.{noNames}
-use Rattle.sheets.specs.code.Reader.{Form, formed, badLine, readLines, readSheet}
+use Rattle.sheets.specs.code.run.Slots.{noNames}
+use Rattle.sheets.specs.code.reader.Reader.{Form, formed, badLine, readLines, readSheet}
 use Rattle.sheets.specs.Refusals.{size, lent, refusalNumber}
-use Rattle.sheets.specs.code.Walking.{Admits}
+use Rattle.sheets.specs.code.check.Walking.{Admits}
 use Rattle.sheets.specs.Machine.{start, surface, machine}
 use Rattle.sheets.specs.Check.{Walked, passes, refuses, walk}
 use Rattle.sheets.specs.declared.answers.CheckAnswer.{CheckAnswer}
 use Rattle.sheets.specs.declared.answers.RunAnswer.{RunAnswer}
 use Rattle.sheets.specs.Answers.{sized, ranged, Verdict, admitted, refused, ofWalked, ofRange, ofForm, ofLent, ofSize, verdict, checkOf, laid, kindsOfVerdict, lentKinds, CheckOwes, Tells, RunOf, lentRun, RunOwes}
-use Rattle.sheets.specs.code.Writing.{writes, part}
-use Rattle.sheets.proofs.WritingLaws.{name-written, laid-first}
+use Rattle.sheets.specs.code.run.Writing.{writes, part}
+use Rattle.sheets.proofs.run.WritingLaws.{name-written, laid-first}
 use Rattle.sheets.proofs.Sound.{agree}
 use Rattle.sheets.proofs.ClaimHolds.{unstuck, claim}
 use Rattle.sheets.proofs.ConfinedHolds.{list-confined, output-confined}
-use Rattle.sheets.proofs.SheetLaws.{reader-reads}
+use Rattle.sheets.proofs.reader.SheetLaws.{reader-reads}
 use Rattle.sheets.specs.Claim.{All}
 use Rattle.numbers.proofs.FitLaws.{Fits}
 use Rattle.sheets.specs.Both.{Both}
 use Rattle.sheets.specs.declared.check_and_run.BothAnswers.{BothAnswers}
-use Rattle.sheets.specs.code.Running.{Runs}
-use Rattle.sheets.proofs.KnownLaws.{tabled-start}
+use Rattle.sheets.specs.code.run.Running.{Runs}
+use Rattle.sheets.proofs.run.KnownLaws.{tabled-start}
 
 -- ---- the kind list
 

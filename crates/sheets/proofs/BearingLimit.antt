@@ -10,7 +10,7 @@ use Rattle.frames.specs.Vectors.{bearing}
 use Rattle.frames.specs.declared.vector.LocalVector.{LocalVector}
 use Rattle.frames.proofs.BearingLaws.{InTurn, bearing-below}
 use Rattle.sheets.specs.Limits.{near, inLimit}
-use Rattle.sheets.specs.declared.value.Value.the-variants.{Vector}
+use Rattle.sheets.specs.declared.rows.value.Value.the-variants.{Vector}
 
 near-finite : (x : Float) → T (near x) → T (finite x)
 unfolding le neg decimal

@@ -6,8 +6,8 @@ use Rattle.frames.specs.declared.positions.GeocentricPosition.{GeocentricPositi
 use Rattle.frames.specs.declared.positions.GeodeticPosition.{GeodeticPosition}
 use Rattle.frames.specs.declared.vector.LocalVector.{LocalVector}
 use Rattle.frames.specs.declared.frame.LocalFrame.{LocalFrame}
-use Rattle.sheets.specs.declared.value.Value.{Value}
-use Rattle.sheets.specs.declared.value.Value.the-variants.{Number, Radians, Metres, Geocentric, Geodetic, Vector, Frame}
+use Rattle.sheets.specs.declared.rows.value.Value.{Value}
+use Rattle.sheets.specs.declared.rows.value.Value.the-variants.{Number, Radians, Metres, Geocentric, Geodetic, Vector, Frame}
 
 pub by-cases : (P : Value → Type 0) → ((x : Float) → P (Number x)) → ((x : Angle) → P (Radians x)) → ((x : Length) → P (Metres x))
     → ((x : GeocentricPosition) → P (Geocentric x)) → ((x : GeodeticPosition) → P (Geodetic x)) → ((x : LocalVector) → P (Vector x)) → ((x : LocalFrame) → P (Frame x)) → (x : Value) → P x

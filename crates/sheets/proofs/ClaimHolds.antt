@@ -14,7 +14,7 @@ use Rattle.numbers.proofs.FitLaws.{Fits}
 use Rattle.numbers.proofs.VecLaws.{FiniteVec, FiniteMat}
 use Rattle.frames.specs.declared.frame.LocalFrame.{LocalFrame}
 use Rattle.frames.proofs.FrameLaws.{Sound, Home, home}
-use Rattle.sheets.specs.declared.value.Value.{Value}
+use Rattle.sheets.specs.declared.rows.value.Value.{Value}
 use Rattle.sheets.specs.Trees.{Sheet}
 use Rattle.sheets.specs.Grammar.{Written, FirstBad, Form, formed, badLine, Reads}
 use Rattle.sheets.specs.Names.{Given}
@@ -27,9 +27,9 @@ use Rattle.sheets.specs.Claim.{Admits, Unstuck, namesGiven, framesMade, 
 use Rattle.sheets.proofs.Alike.{KnownLike}
 use Rattle.sheets.proofs.Agree.{Sees}
 use Rattle.sheets.proofs.Sound.{OnLine, Later, AgreeRan, agree, all-later}
-use Rattle.sheets.proofs.LinesExact.{walk-passes, walk-admits}
+use Rattle.sheets.proofs.check.LinesExact.{walk-passes, walk-admits}
 use Rattle.sheets.proofs.EveryFrame.{every-frame}
-use Rattle.sheets.proofs.FormLaws.{form-once}
+use Rattle.sheets.proofs.reader.FormLaws.{form-once}
 use Rattle.sheets.specs.Table.{when}
 
 -- ---- refusals by their numbers

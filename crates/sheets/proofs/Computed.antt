@@ -3,7 +3,7 @@ use mathlib.Core.Bool.{Bool, true}
 use Rattle.numbers.proofs.Computed.{computed as numbersComputed}
 use Rattle.frames.proofs.Computed.{computed as framesComputed}
 use Rattle.sheets.specs.Trees.{decimalFrom}
-use Rattle.sheets.specs.code.Reader.{reading}
+use Rattle.sheets.specs.code.reader.Reader.{reading}
 use Rattle.sheets.specs.Letters.{held, hold}
 use Rattle.sheets.specs.Table.{far, table}
 use Rattle.sheets.specs.Lookup.{find, kindRows, search, findKind}

@@ -18,8 +18,8 @@ use Rattle.sheets.specs.Machine.{Ran, done, stopped, machine}
 use Rattle.sheets.specs.Admitted.{LinesFit}
 use Rattle.sheets.specs.Answers.{sized, Verdict, admitted, refused, ofSize, verdict, CheckAnswer, checkOf, laid, kindsOfVerdict, lentKinds, CheckOwes, RunAnswer, Tells, RunOf, lentRun, RunOwes}
 use Rattle.sheets.specs.Confined.{OutputConfined, ListConfined}
-use Rattle.sheets.proofs.WritingLaws.{length-laid}
-use Rattle.sheets.proofs.TextBound.{ranText, text-fits}
+use Rattle.sheets.proofs.run.WritingLaws.{length-laid}
+use Rattle.sheets.proofs.run.TextBound.{ranText, text-fits}
 use Rattle.sheets.proofs.ClaimHolds.{refusal-some, Says, says}
 
 -- ---- the verdict by what is lent

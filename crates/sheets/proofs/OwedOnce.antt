@@ -7,7 +7,7 @@ use Rattle.sheets.specs.Trees.{Sheet}
 use Rattle.sheets.specs.Grammar.{Form}
 use Rattle.sheets.specs.Machine.{Ran, done, stopped, machine}
 use Rattle.sheets.specs.Answers.{Verdict, admitted, refused, verdict, CheckAnswer, checkOf, kindsOfVerdict, lentKinds, CheckOwes, RunAnswer, Tells, RunOf, lentRun, RunOwes}
-use Rattle.sheets.proofs.FormLaws.{form-once}
+use Rattle.sheets.proofs.reader.FormLaws.{form-once}
 
 pub check-once : (s kinds : List ℕ) (r q : CheckAnswer) (k l : List ℕ) → CheckOwes s kinds r k → CheckOwes s kinds q l → (r ≡ q) × (k ≡ l)
 check-once s kinds r q k l a b =

@@ -4,8 +4,8 @@ use mathlib.Core.List.{List, [], _∷_, map}
 use Prim.Native.Nat.{ℕ}
 use Prim.Native.String.{String}
 use Rattle.frames.specs.declared.frame.LocalFrame.{LocalFrame}
-use Rattle.sheets.specs.declared.value.Value.{Value}
-use Rattle.sheets.specs.declared.value.Value.the-variants.{Frame}
+use Rattle.sheets.specs.declared.rows.value.Value.{Value}
+use Rattle.sheets.specs.declared.rows.value.Value.the-variants.{Frame}
 use Rattle.sheets.specs.Text.{ascii}
 use Rattle.sheets.specs.Trees.{Sheet}
 use Rattle.sheets.specs.Grammar.{Written, Form, formed, badLine, Reads}
@@ -16,9 +16,9 @@ use Rattle.sheets.specs.Output.{outputLine}
 use Rattle.sheets.specs.Refusals.{limit}
 use Rattle.sheets.specs.Machine.{Ran, done, stopped, stuck, machine}
 use Rattle.sheets.specs.Claim.{namesGiven, framesMade}
-use Rattle.sheets.specs.code.Reader.{readSheet}
+use Rattle.sheets.specs.code.reader.Reader.{readSheet}
 use Rattle.sheets.proofs.Computed.{computed}
-use Rattle.sheets.proofs.SheetLaws.{reader-reads, reader-only}
+use Rattle.sheets.proofs.reader.SheetLaws.{reader-reads, reader-only}
 use Rattle.sheets.proofs.Starred.{sixteen}
 
 -- each frame by the line that a show of it would write

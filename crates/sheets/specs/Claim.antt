@@ -14,7 +14,7 @@ use Rattle.numbers.specs.declared.mat33.Mat33.{Mat33}
 use Rattle.frames.specs.Vectors.{localZero}
 use Rattle.frames.specs.Frames.{frameOrigin, destinationPosition, localVectorTo}
 use Rattle.frames.specs.declared.frame.LocalFrame.{LocalFrame}
-use Rattle.sheets.specs.declared.value.Value.{Value}
+use Rattle.sheets.specs.declared.rows.value.Value.{Value}
 use Rattle.sheets.specs.Trees.{Sheet}
 use Rattle.sheets.specs.Grammar.{Written, FirstBad}
 use Rattle.sheets.specs.Names.{Given}

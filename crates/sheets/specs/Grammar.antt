@@ -143,7 +143,7 @@ pub data FirstBad : List ℕ → ℕ → Type 0 where
   at-line : {s : List ℕ} (c : Sheet) (b : ℕ) (r : List ℕ) → s ≡ printSheet c ⌢ (b ∷ r) → IsSheet c → ¬ (LineBegins (afterAll 0 (c .lines)) (b ∷ r)) → FirstBad s (length (c .lines) + 2)
   at-97 : {s : List ℕ} (c : Sheet) (b : ℕ) (r : List ℕ) → s ≡ printSheet c ⌢ (b ∷ r) → IsSheet c → length (c .lines) ≡ 95 → FirstBad s 97
 
--- ---- What the grammar makes of bytes: the sheet that they are, or the first line that breaks it; one of the two, and only one (proofs/FormLaws.antt).
+-- ---- What the grammar makes of bytes: the sheet that they are, or the first line that breaks it; one of the two, and only one (proofs/reader/FormLaws.antt).
 pub data Form (A : Type 0) : Type 0 where
   formed : A → Form A
   badLine : ℕ → Form A

@@ -18,8 +18,8 @@ use Rattle.frames.specs.declared.ellipsoid.Ellipsoid.{Ellipsoid}
 use Rattle.frames.specs.declared.positions.GeocentricPosition.{GeocentricPosition}
 use Rattle.frames.specs.declared.orientation.Orientation.{Orientation}
 use Rattle.frames.specs.declared.orientation.Orientation.the-variants.{Enu, Ned, Body, Wan}
-use Rattle.sheets.specs.declared.value.Value.{Value}
-use Rattle.sheets.specs.declared.value.Value.the-variants.{Radians, Metres, Geocentric, Geodetic, Vector, Frame}
+use Rattle.sheets.specs.declared.rows.value.Value.{Value}
+use Rattle.sheets.specs.declared.rows.value.Value.the-variants.{Radians, Metres, Geocentric, Geodetic, Vector, Frame}
 use Rattle.sheets.specs.Text.{Word, ascii}
 use Rattle.sheets.specs.Kinds.{Kind, angle, len, geocentric, geodetic, vector, frame}
 use Rattle.sheets.specs.Letters.{Letter, 𝐧, 𝐚, 𝐥, 𝐠, 𝐝, 𝐯, 𝐟, ⟦_⟧, Holds}

@@ -1,7 +1,12 @@
 // The check of a sheet: refusals 1 to 6, and the kind list.
-use crate::admit::Outcome;
-use crate::admit::admit;
+pub(crate) mod admit;
+pub(crate) mod first_line;
+pub(crate) mod kind_walk;
+pub(crate) mod newest;
+
 use crate::answers::CheckAnswer;
+use crate::check::admit::Outcome;
+use crate::check::admit::admit;
 ghost use mathlib.Core.Path.{_≡_};
 ghost use mathlib.Core.Bool.{_&&_};
 ghost use Prim.Native.Nat.{_≤_};

@@ -1,17 +1,24 @@
 // The rows that make a plain value or a vector, and those that read a vector or a frame: each at values of the row's kinds.
-use crate::args::Aer;
-use crate::args::Applied;
-use crate::args::Lengths;
-use crate::args::aer_of;
-use crate::args::enu_or_ned;
-use crate::args::gives_angle;
-use crate::args::gives_geocentric;
-use crate::args::gives_geodetic;
-use crate::args::gives_length;
-use crate::args::gives_vector;
-use crate::args::lengths_of;
-use crate::args::same_orientation;
-use crate::value::Value;
+pub mod args;
+pub mod dispatch;
+pub mod frame_rows;
+pub mod kinds;
+pub mod limits;
+pub mod value;
+
+use crate::rows::args::Aer;
+use crate::rows::args::Applied;
+use crate::rows::args::Lengths;
+use crate::rows::args::aer_of;
+use crate::rows::args::enu_or_ned;
+use crate::rows::args::gives_angle;
+use crate::rows::args::gives_geocentric;
+use crate::rows::args::gives_geodetic;
+use crate::rows::args::gives_length;
+use crate::rows::args::gives_vector;
+use crate::rows::args::lengths_of;
+use crate::rows::args::same_orientation;
+use crate::rows::value::Value;
 use frames::ellipsoid::Ellipsoid;
 use frames::orientation::Orientation;
 use frames::positions::GeocentricPosition;
@@ -26,7 +33,7 @@ ghost use mathlib.Core.List.{[], _∷_};
 ghost use Rattle.sheets.specs.Text.{ascii};
 ghost use Rattle.sheets.specs.Table.{table};
 ghost use Rattle.sheets.specs.Lookup.{find};
-ghost use Rattle.sheets.specs.code.Applied.{applied, vectorWord, aerWord};
+ghost use Rattle.sheets.specs.code.rows.Applied.{applied, vectorWord, aerWord};
 
 pub fn apply_deg(e: Ellipsoid, p: Value) -> Applied
     ensures { λ r. ⌜ r ≡ applied e (find table (ascii "deg") (p ∷ [])) ⌝ }

@@ -1,10 +1,17 @@
 // The run of a sheet over sixteen readings: refusals 1 to 6 over the whole sheet before line 2 runs, then its lines.
-use crate::admit::Outcome;
-use crate::admit::admit;
+pub(crate) mod effects;
+pub(crate) mod eval;
+pub(crate) mod fields;
+pub(crate) mod lines_run;
+pub(crate) mod operands;
+pub(crate) mod text;
+
 use crate::answers::RunAnswer;
 use crate::answers::run_answer;
+use crate::check::admit::Outcome;
+use crate::check::admit::admit;
 use crate::check::is_sized;
-use crate::lines_run::run_lines;
+use crate::run::lines_run::run_lines;
 ghost use Rattle.sheets.specs.Answers.{RunOwes};
 
 // It writes exactly the shows' text, in the first bytes of the output, and answers their count.

@@ -2,14 +2,14 @@
 use crate::text::double;
 use crate::text::word;
 use crate::tree::tree;
-use sheets::expr::Read;
-use sheets::form::FormRead;
-use sheets::form::form;
-use sheets::head::HeadRead;
-use sheets::head::head;
-use sheets::lines::LineHead;
-use sheets::lines::line_end;
-use sheets::lines::line_head;
+use sheets::reader::expr::Read;
+use sheets::reader::form::FormRead;
+use sheets::reader::form::form;
+use sheets::reader::head::HeadRead;
+use sheets::reader::head::head;
+use sheets::reader::lines::LineHead;
+use sheets::reader::lines::line_end;
+use sheets::reader::lines::line_head;
 use test_cases::print::decimal;
 use test_cases::print::put;
 

@@ -1,17 +1,17 @@
 // An expression, printed as it is nested: each word from its code, each number as its double's bits.
 use crate::text::double;
 use crate::text::word;
-use sheets::bytes::WordRead;
-use sheets::bytes::byte;
-use sheets::expr::Read;
-use sheets::expr::expr;
-use sheets::lines::opening;
-use sheets::num::DoubleRead;
+use sheets::reader::bytes::WordRead;
+use sheets::reader::bytes::byte;
+use sheets::reader::expr::Read;
+use sheets::reader::expr::expr;
+use sheets::reader::lines::opening;
+use sheets::reader::num::DoubleRead;
 use test_cases::print::put;
 
 // A word or a number.
 fn leaf(s: &[u8], at: usize) {
-    let w = sheets::bytes::word(s, at);
+    let w = sheets::reader::bytes::word(s, at);
     if let WordRead::Is(code, _) = w {
         word(code);
         return;
@@ -21,7 +21,7 @@ fn leaf(s: &[u8], at: usize) {
 
 // A number.
 fn number(s: &[u8], at: usize) {
-    let q = sheets::num::double(s, at);
+    let q = sheets::reader::num::double(s, at);
     match q {
         DoubleRead::Is(x, _) => double(x),
         DoubleRead::Not => put(b"?"),

@@ -6,10 +6,10 @@ use mathlib.Core.List.{List, [], _∷_, _++_}
 use lib.Dec.{eqb, leb}
 use lib.ListN.{length, getD}
 use lib.Ieee.{Float, binary64, ofBits}
-use Rattle.sheets.specs.code.Reader.{readNum}
-use Rattle.sheets.specs.code.Views.{doubled}
-use Rattle.sheets.specs.declared.num.DoubleRead.{DoubleRead}
-use Rattle.sheets.specs.declared.num.DoubleRead.the-variants.{Is, Not}
+use Rattle.sheets.specs.code.reader.Reader.{readNum}
+use Rattle.sheets.specs.code.reader.Views.{doubled}
+use Rattle.sheets.specs.declared.reader.num.DoubleRead.{DoubleRead}
+use Rattle.sheets.specs.declared.reader.num.DoubleRead.the-variants.{Is, Not}
 use Rattle.boresheet.specs.declared.readings.Found.{Found}
 use Rattle.boresheet.specs.declared.readings.Readings.{Readings}
 use Rattle.boresheet.specs.Format.{hexNumber, noReadings}

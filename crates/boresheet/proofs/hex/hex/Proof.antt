@@ -2,7 +2,7 @@
 use native.Mathlib.Omega.{arith}
 use Prim.Native.Nat.{ℕ, _+_, _-_, _*_, _^_, _<_, _≤_}
 use mathlib.Core.Path.{_≡_, refl}
-use Rattle.sheets.proofs.TokenSteps.{grow, cap}
+use Rattle.sheets.proofs.reader.TokenSteps.{grow, cap}
 use Rattle.boresheet.specs.code.Readings.{hexFrom, hexAt}
 use Rattle.boresheet.proofs.ReadingSteps.{hex-stop, hex-turn, hex-end}
 use borrow.Author.Needs.{needs}

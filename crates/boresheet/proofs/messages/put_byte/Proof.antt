@@ -1,6 +1,6 @@
 -- `boresheet::messages::put_byte` meets its contract. Assumes nothing.
 use mathlib.Core.Path.{refl}
-use Rattle.sheets.specs.code.Writing.{writes}
+use Rattle.sheets.specs.code.run.Writing.{writes}
 use borrow.Author.Needs.{needs}
 use Rattle.boresheet.proofs.messages.put_byte.Statement.{statement}
 use Rattle.boresheet.proofs.messages.put_byte.Tie as tie

@@ -3,7 +3,7 @@ use native.Mathlib.Omega.{arith}
 use Prim.Native.Nat.{_+_, _-_, _≤_}
 use mathlib.Core.Path.{_≡_, refl}
 use lib.ListN.{length, length-set, drop}
-use Rattle.sheets.specs.code.Writing.{writes}
+use Rattle.sheets.specs.code.run.Writing.{writes}
 use Rattle.boresheet.proofs.MessageSteps.{text-turn, text-end}
 use Rattle.boresheet.proofs.messages.put_text.Statement.{statement}
 use Rattle.boresheet.proofs.messages.put_text.Tie as tie

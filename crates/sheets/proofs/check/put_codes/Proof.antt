@@ -3,8 +3,8 @@ use native.Mathlib.Omega.{arith}
 use Prim.Native.Nat.{_-_, _≤_}
 use mathlib.Core.Path.{_≡_, refl}
 use lib.ListN.{length, length-set}
-use Rattle.sheets.specs.code.Writing.{writes, part}
-use Rattle.sheets.proofs.WritingLaws.{name-turn}
+use Rattle.sheets.specs.code.run.Writing.{writes, part}
+use Rattle.sheets.proofs.run.WritingLaws.{name-turn}
 use Rattle.sheets.proofs.AnswerSteps.{codes-put}
 use Rattle.sheets.proofs.check.put_codes.Statement.{statement}
 use Rattle.sheets.proofs.check.put_codes.Tie as tie

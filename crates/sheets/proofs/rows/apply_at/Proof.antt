@@ -3,7 +3,7 @@ use mathlib.Core.Path.{refl, sym, _∙_}
 use Rattle.sheets.specs.Letters.{hold}
 use Rattle.sheets.specs.Table.{table}
 use Rattle.sheets.specs.Lookup.{find}
-use Rattle.sheets.proofs.HeldLaws.{is-𝐟, is-𝐯, not-𝐟, not-𝐯}
+use Rattle.sheets.proofs.rows.HeldLaws.{is-𝐟, is-𝐯, not-𝐟, not-𝐯}
 use borrow.Author.Needs.{needs}
 use Rattle.sheets.proofs.rows.apply_at.Statement.{statement}
 use Rattle.sheets.proofs.rows.apply_at.Tie as tie

@@ -3,7 +3,7 @@ use mathlib.Core.Path.{refl}
 use Rattle.sheets.specs.Letters.{hold}
 use Rattle.sheets.specs.Table.{table}
 use Rattle.sheets.specs.Lookup.{find}
-use Rattle.sheets.proofs.HeldLaws.{is-𝐧, not-𝐧}
+use Rattle.sheets.proofs.rows.HeldLaws.{is-𝐧, not-𝐧}
 use borrow.Author.Needs.{needs}
 use Rattle.sheets.proofs.rows.apply_deg.Statement.{statement}
 use Rattle.sheets.proofs.rows.apply_deg.Tie as tie

@@ -14,8 +14,8 @@ use Rattle.test_cases.proofs.print.put.Reads as put-reads
 use Rattle.test_forms.proofs.text.word.Reads as word-reads
 use Rattle.test_forms.proofs.tree.after.Reads as after-reads
 use Rattle.test_forms.proofs.tree.leaf.Reads as leaf-reads
-use Rattle.sheets.proofs.bytes.byte.Reads as byte-reads
-use Rattle.sheets.proofs.lines.opening.Reads as opening-reads
+use Rattle.sheets.proofs.reader.bytes.byte.Reads as byte-reads
+use Rattle.sheets.proofs.reader.lines.opening.Reads as opening-reads
 use Rattle.test_forms.proofs.tree.+arguments+tree.{statement}
 use Rattle.test_forms.proofs.tree.+arguments+tree.Tie.{close}
 

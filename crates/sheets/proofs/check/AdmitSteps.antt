@@ -1,0 +1,277 @@
+-- The check's walk over the lines, a turn at a time, and the whole sheet: a law for each way out of `walk_lines`, `unless_bad` and `admit`. Assumes nothing.
+use Prim.Native.Nat.{ℕ, suc, _+_, _-_, _%_, _<_, _≤_}
+use native.Mathlib.Omega.{arith}
+use mathlib.Core.Path.{_≡_, refl, sym, ap, _∙_, subst}
+use mathlib.Core.Bool.{Bool, true, false}
+use mathlib.Core.List.{List, [], _∷_, _++_}
+use mathlib.Core.Option.{Option, none, some}
+use lib.ListN.{length, take, set, replicate}
+use lib.Seq.{take-suc-set, length-take-le}
+use Rattle.frames.specs.declared.ellipsoid.Ellipsoid.{Ellipsoid}
+use Rattle.sheets.specs.Trees.{Line, let-line, show-line, Head, Sheet, numbered}
+use Rattle.sheets.specs.Grammar.{IsLine, after}
+use Rattle.sheets.specs.code.reader.Codes.{codeOf}
+use Rattle.sheets.specs.code.reader.Reader.{Got, none as noGot, got, readLine, readHead, Form, formed, badLine, _thenᶠ_, linesStep, readLines, sheetStep, readSheet}
+use Rattle.sheets.specs.code.reader.Views.{linesForm}
+use Rattle.sheets.specs.code.check.FirstLines.{firstIn, firstOf}
+use Rattle.sheets.specs.Kinds.{Kind, kindCode}
+use Rattle.sheets.specs.Names.{lookup, barred, givenOn}
+use Rattle.sheets.specs.Scopes.{Scope, withName, giveIf}
+use Rattle.sheets.specs.Refusals.{Fault, name, fault, refusalNumber, Checked, fine, bad, thenᶜ, known?}
+use Rattle.sheets.specs.Check.{kindOfExpr, Stateᶜ, noted, stepᶜ, Walked, passes, refuses, onwardᶜ, stepsᶜ, startᶜ, walk}
+use Rattle.sheets.specs.Answers.{ranged, ofWalked, ofForm}
+use Rattle.sheets.specs.Machine.{surface}
+use Rattle.sheets.specs.declared.reader.form.FormRead.{FormRead}
+use Rattle.sheets.specs.declared.check.first_line.FirstLine.{FirstLine}
+use Rattle.sheets.proofs.reader.Spans.{holds-at}
+use Rattle.sheets.proofs.reader.LineLaws.{LineStands, line-sound}
+use Rattle.sheets.proofs.reader.Walks.{lines-end, lines-over, lines-step, Step, walk-line}
+use Rattle.sheets.specs.code.check.Walking.{kindFrom, Stands, lineWord, unbarred, lineKind, lineSaid, LineHas, Walks, LinesWalk, unlessBad, Admits}
+use Rattle.sheets.specs.declared.check.admit.LineKind.{LineKind}
+use Rattle.sheets.specs.declared.check.admit.Outcome.{Outcome}
+use Rattle.sheets.specs.declared.check.admit.Admission.{Admission}
+use Rattle.sheets.proofs.check.NewestLaws.{newest-none}
+use Rattle.sheets.proofs.check.PassedLaws.{reading-is, stands-given, stands-shown}
+
+-- ---- the state after a line whose word has the kind k
+
+abbrev scopeAfter : ℕ → Line → Kind → Scope Kind → Scope Kind
+scopeAfter i (let-line w x) k c = withName (givenOn i w k) c
+scopeAfter i (show-line w) k c = c
+
+abbrev stepped : ℕ → Stateᶜ → Line → Kind → Stateᶜ
+stepped i s l k = record { scope = scopeAfter i l k (s .scope); codes = s .codes ++ (kindCode k ∷ []) }
+
+step-is : (i : ℕ) (s : Stateᶜ) (l : Line) → stepᶜ i s l ≡ thenᶜ (lineKind l (s .scope .known)) (λ k. fine (stepped i s l k))
+unfolding stepᶜ lineKind
+step-is i s (let-line w x) = go (kindOfExpr x (s .scope .known)) (barred w (s .scope .known))
+  where
+    go : (o : Checked Kind) (b : Bool) → thenᶜ o (λ k. thenᶜ (giveIf b (givenOn i w k) (s .scope)) (noted s (kindCode k))) ≡ thenᶜ (thenᶜ o (λ k. unbarred b k)) (λ k. fine (stepped i s (let-line w x) k))
+    go (fine k) true = refl
+    go (fine k) false = refl
+    go (bad f) b = refl
+step-is i s (show-line w) = refl
+
+steps-fine : (l : Line) (ls : List Line) (i : ℕ) (s : Stateᶜ) (k : Kind) → lineKind l (s .scope .known) ≡ fine k → stepsᶜ (numbered i (l ∷ ls)) s ≡ stepsᶜ (numbered (suc i) ls) (stepped i s l k)
+unfolding stepsᶜ
+steps-fine l ls i s k e = ap (λ o. onwardᶜ o i (λ t. stepsᶜ (numbered (suc i) ls) t)) (step-is i s l ∙ ap (λ o. thenᶜ o (λ k. fine (stepped i s l k))) e)
+
+steps-bad : (l : Line) (ls : List Line) (i : ℕ) (s : Stateᶜ) (f : Fault) → lineKind l (s .scope .known) ≡ bad f → stepsᶜ (numbered i (l ∷ ls)) s ≡ refuses f i
+unfolding stepsᶜ
+steps-bad l ls i s f e = ap (λ o. onwardᶜ o i (λ t. stepsᶜ (numbered (suc i) ls) t)) (step-is i s l ∙ ap (λ o. thenᶜ o (λ k. fine (stepped i s l k))) e)
+
+laid-after : (codes : List ℕ) (n : ℕ) → n < length codes → (i : ℕ) (s : Stateᶜ) (l : Line) (k : Kind) → take n codes ≡ 255 ∷ s .codes
+    → take (n + 1) (set codes n (kindCode k)) ≡ 255 ∷ stepped i s l k .codes
+laid-after codes n h i s l k e =
+    let en : n + 1 ≡ suc n = omega arith in
+    ap (λ j. take j (set codes n (kindCode k))) en ∙ take-suc-set codes n (kindCode k) h ∙ ap (λ z. z ++ (kindCode k ∷ [])) e
+
+-- ---- readings put together
+
+alone : (f : Form (List Line)) → f ≡ (f thenᶠ (λ ls. formed ls))
+unfolding _thenᶠ_
+alone (formed ls) = refl
+alone (badLine j) = refl
+
+twice : (f : Form (List Line)) (g h : List Line → List Line) → ((f thenᶠ (λ ls. formed (g ls))) thenᶠ (λ ls. formed (h ls))) ≡ (f thenᶠ (λ ls. formed (h (g ls))))
+unfolding _thenᶠ_
+twice (formed ls) g h = refl
+twice (badLine j) g h = refl
+
+-- ---- the walk, where so many lines after line 1 are passed and the next one stands at a place: those before it were read, and make the state
+
+pub record Midway (s : List ℕ) (start at passed : ℕ) (words codes newest : List ℕ) : Type 0 where
+  pub before : List Line → List Line
+  pub phase : ℕ
+  pub state : Stateᶜ
+  pub whole : readLines 95 2 0 s start ≡ (readLines (95 - passed) (passed + 2) phase s at thenᶠ (λ ls. formed (before ls)))
+  pub walked : (ls : List Line) → stepsᶜ (numbered 2 (before ls)) startᶜ ≡ stepsᶜ (numbered (passed + 2) ls) state
+  pub stands : Stands words codes newest passed (state .scope .known)
+  pub laid : take (passed + 1) codes ≡ 255 ∷ state .codes
+
+pub midway-start : (s : List ℕ) (at : ℕ) → Midway s at at 0 (replicate 96 0) (replicate 96 255) (replicate 512 0)
+unfolding kindFrom
+midway-start s at = record { before = λ ls. ls; phase = 0; state = startᶜ; whole = alone (readLines 95 2 0 s at); walked = λ ls. refl; stands = record { few = omega arith; from = newest-none _; is = reading-is }; laid = refl }
+
+module _ (s : List ℕ) (start at passed : ℕ) (words codes newest : List ℕ) (m : Midway s start at passed words codes newest) where
+  -- the lines from this place on
+  abbrev onward : Form (List Line)
+  onward = readLines (95 - passed) (passed + 2) (m .phase) s at
+
+  -- a answers the whole
+  abbrev pub Answers : Ellipsoid → Admission → Type 0
+  Answers e a = LinesWalk (readLines 95 2 0 s start) e start a
+
+  came : (f : Form (List Line)) → onward ≡ f → readLines 95 2 0 s start ≡ (f thenᶠ (λ ls. formed (m .before ls)))
+  came f e = m .whole ∙ ap (λ f. f thenᶠ (λ ls. formed (m .before ls))) e
+
+  walk-bad : (j : ℕ) → onward ≡ badLine j → (e : Ellipsoid) (a : Admission) → a .outcome ≡ Outcome.Refuses 3 j → Answers e a
+  unfolding _thenᶠ_ LinesWalk
+  walk-bad j h e a ea = subst (λ f. LinesWalk f e start a) (sym (came (badLine j) h)) ea
+
+  walk-formed : (ls : List Line) → onward ≡ formed ls → (e : Ellipsoid) (a : Admission) → Walks (stepsᶜ (numbered (passed + 2) ls) (m .state)) e start a → Answers e a
+  unfolding _thenᶠ_ LinesWalk
+  walk-formed ls h e a w = subst (λ f. LinesWalk f e start a) (sym (came (formed ls) h)) (subst (λ o. Walks o e start a) (sym (m .walked ls)) w)
+
+  pub walk-done : passed ≤ 95 → length codes ≡ 96 → length s ≤ at → (e : Ellipsoid) → Answers e (record { outcome = Outcome.Passes (passed + 1) e start; codes = codes })
+  unfolding Walks stepsᶜ
+  walk-done le lc h e =
+      let n : length (255 ∷ m .state .codes) ≡ passed + 1 = ap length (sym (m .laid)) ∙ length-take-le (passed + 1) codes (omega arith) in
+      walk-formed [] (lines-end s at (passed + 2) (m .phase) (95 - passed) h) e _ (ap (λ k. Outcome.Passes k e start) (sym n), omega arith, ap (λ k. take k codes) n ∙ m .laid)
+
+  module _ (h : at < length s) where
+    pub walk-over : 95 ≤ passed → passed ≤ 95 → (e : Ellipsoid) (a : Admission) → a .outcome ≡ Outcome.Refuses 3 97 → Answers e a
+    walk-over l le e a ea =
+        let i : passed + 2 ≡ 97 = omega arith in
+        walk-bad (passed + 2) (lines-over s at (passed + 2) (m .phase) (95 - passed) (omega arith) h) e a (ea ∙ ap (λ j. Outcome.Refuses 3 j) (sym i))
+
+    -- r is what the line came to
+    module _ (r : LineKind) (hr : LineHas (readLine s at) (m .state .scope .known) r) (le : passed < 95) where
+      pub walk-fault : (number : ℕ) → r ≡ LineKind.Refused number → (e : Ellipsoid) (a : Admission)
+          → a .outcome ≡ unlessBad (linesForm (passed + 2) (readLines (97 - (passed + 2)) (passed + 2) (m .phase) s at)) number (passed + 2) → Answers e a
+      unfolding Walks lineSaid linesForm unlessBad
+      walk-fault number er e a ea =
+          let i : 97 - (passed + 2) ≡ 95 - passed = omega arith in
+          go onward refl (ea ∙ ap (λ k. unlessBad (linesForm (passed + 2) (readLines k (passed + 2) (m .phase) s at)) number (passed + 2)) i)
+        where
+          go : (f : Form (List Line)) → onward ≡ f → a .outcome ≡ unlessBad (linesForm (passed + 2) f) number (passed + 2) → Answers e a
+          go (badLine j) ef ea = walk-bad j ef e a ea
+          go (formed ls) ef ea =
+              walk-formed ls ef e a (subst (λ ls. Walks (stepsᶜ (numbered (passed + 2) ls) (m .state)) e start a) (sym (now .all))
+              (refuse (lineKind (now .line) (m .state .scope .known)) refl (hr .is (now .line) (now .next) (now .stands))))
+            where
+              now : Step s (95 - passed) (passed + 2) (m .phase) at ls ef
+              now = walk-line s (95 - passed) (passed + 2) (m .phase) at ls ef h
+
+              refuse : (q : Checked Kind) → lineKind (now .line) (m .state .scope .known) ≡ q → r ≡ lineSaid (lineWord (now .line)) q (now .next)
+                  → Walks (stepsᶜ (numbered (passed + 2) (now .line ∷ now .rest)) (m .state)) e start a
+              refuse (fine k) eq i = let z : _≡_ {A = ℕ} 0 1 = cc in absurd (omega arith)
+              refuse (bad f) eq i =
+                  let j : number ≡ refusalNumber (fault f) = cc in
+                  subst (λ q. Walks q e start a) (sym (steps-bad (now .line) (now .rest) (passed + 2) (m .state) f eq)) (ea ∙ ap (λ k. Outcome.Refuses k (passed + 2)) j)
+
+      module _ (lw : length words ≡ 96) (lc : length codes ≡ 96) (code kind next : ℕ) (er : r ≡ LineKind.Is code kind next) where
+        stands-after : (l : Line) → IsLine l → (k : Kind) → lineKind l (m .state .scope .known) ≡ fine k
+            → Stands (set words (passed + 1) (codeOf (lineWord l))) (set codes (passed + 1) (kindCode k)) (set newest (codeOf (lineWord l) % 512) (passed + 1)) (passed + 1) (stepped (passed + 2) (m .state) l k .scope .known)
+        unfolding lineKind
+        stands-after (let-line w x) hl k e = stands-given words codes newest passed (m .state .scope .known) (m .stands) lw lc le w (hl .0 .1 .0) k (passed + 2)
+        stands-after (show-line w) hl k e = stands-shown words codes newest passed (m .state .scope .known) (m .stands) lw lc le w (hl .0 .1 .0) k (go (lookup w (m .state .scope .known)) e)
+          where
+            go : (q : Option Kind) → known? name q ≡ fine k → q ≡ some k
+            go none e = let z : _≡_ {A = ℕ} 0 1 = cc in absurd (omega arith)
+            go (some j) e = let i : j ≡ k = cc in ap (λ j. some j) i
+
+        whole-after : (l : Line) → readLine s at ≡ got l next
+            → readLines 95 2 0 s start ≡ (readLines (95 - (passed + 1)) (passed + 1 + 2) (after (m .phase) l) s next thenᶠ (λ ls. formed (m .before (l ∷ ls))))
+        unfolding linesStep
+        whole-after l el =
+            let p = after (m .phase) l in
+            let ek : 95 - passed - 1 ≡ 95 - (passed + 1) = omega arith in
+            let ei : passed + 2 + 1 ≡ passed + 1 + 2 = omega arith in
+            let there = readLines (95 - (passed + 1)) (passed + 1 + 2) p s next in
+            came (there thenᶠ (λ ls. formed (l ∷ ls))) (
+            lines-step s at (passed + 2) (m .phase) (95 - passed) (omega arith) h
+            ∙ ap (λ o. linesStep false (passed + 2) o (λ l. readLines (95 - passed - 1) (passed + 2 + 1) (after (m .phase) l) s)) el
+            ∙ ap (λ k. readLines k (passed + 2 + 1) p s next thenᶠ (λ ls. formed (l ∷ ls))) ek
+            ∙ ap (λ i. readLines (95 - (passed + 1)) i p s next thenᶠ (λ ls. formed (l ∷ ls))) ei)
+            ∙ twice there (λ ls. l ∷ ls) (m .before)
+
+        walked-after : (l : Line) (k : Kind) → lineKind l (m .state .scope .known) ≡ fine k → (ls : List Line)
+            → stepsᶜ (numbered 2 (m .before (l ∷ ls))) startᶜ ≡ stepsᶜ (numbered (passed + 1 + 2) ls) (stepped (passed + 2) (m .state) l k)
+        walked-after l k e ls =
+            let ei : suc (passed + 2) ≡ passed + 1 + 2 = omega arith in
+            m .walked (l ∷ ls) ∙ steps-fine l ls (passed + 2) (m .state) k e ∙ ap (λ i. stepsᶜ (numbered i ls) (stepped (passed + 2) (m .state) l k)) ei
+
+        pub walk-on : (later : List ℕ) → later ≡ set newest (code % 512) (passed + 1) → Midway s start next (passed + 1) (set words (passed + 1) code) (set codes (passed + 1) kind) later
+        unfolding lineSaid
+        walk-on later et = let (l, el) = hr .read code kind next er in go l el (lineKind l (m .state .scope .known)) refl (hr .is l next el)
+          where
+            go : (l : Line) → readLine s at ≡ got l next → (q : Checked Kind) → lineKind l (m .state .scope .known) ≡ q → r ≡ lineSaid (lineWord l) q next
+                → Midway s start next (passed + 1) (set words (passed + 1) code) (set codes (passed + 1) kind) later
+            go l el (fine k) eq e =
+                let ec : codeOf (lineWord l) ≡ code = cc in
+                let ek : kindCode k ≡ kind = cc in
+                let line : IsLine l = holds-at (LineStands s at) (readLine s at) l next (line-sound s at) el .1 in
+                record {
+                  before = λ ls. m .before (l ∷ ls);
+                  phase = after (m .phase) l;
+                  state = stepped (passed + 2) (m .state) l k;
+                  whole = whole-after l el;
+                  walked = walked-after l k eq;
+                  stands = rw (et, ← ec, ← ek) (stands-after l line k eq);
+                  laid = rw (← ek) (laid-after codes (passed + 1) (omega arith) (passed + 2) (m .state) l k (m .laid));
+                }
+            go l el (bad f) eq e = let z : _≡_ {A = ℕ} 0 1 = cc in absurd (omega arith)
+
+-- ---- the form pass after a refusal
+
+module _ (o : Form (List Line)) (from : ℕ) (f : FormRead) (ef : f ≡ linesForm from o) (n number line : ℕ) (r : Outcome) where
+  pub unless-bad : f ≡ FormRead.Bad n → r ≡ Outcome.Refuses 3 n → r ≡ unlessBad (linesForm from o) number line
+  unfolding unlessBad
+  unless-bad h er = er ∙ ap (λ f. unlessBad f number line) (sym h ∙ ef)
+
+  pub unless-fine : f ≡ FormRead.Fine n → r ≡ Outcome.Refuses number line → r ≡ unlessBad (linesForm from o) number line
+  unfolding unlessBad
+  unless-fine h er = er ∙ ap (λ f. unlessBad f number line) (sym h ∙ ef)
+
+-- ---- the whole sheet: q is what line 1 came to
+
+module _ (s : List ℕ) (q : FirstLine) (eq : q ≡ firstOf (readHead s)) (a : Admission) where
+  -- the sheet by its line 1 and its lines
+  abbrev Answered : Got Head → Type 0
+  Answered o = Admits s (ofForm (sheetStep o (readLines 95 2 0 s))) a
+
+  by-head : ((o : Got Head) → firstOf o ≡ q → Answered o) → Admits s (ofForm (readSheet s)) a
+  unfolding readSheet
+  by-head g = g (readHead s) (sym eq)
+
+  pub admit-no-head : q ≡ FirstLine.Bad → a .outcome ≡ Outcome.Refuses 3 1 → Admits s (ofForm (readSheet s)) a
+  unfolding sheetStep firstOf firstIn Admits
+  admit-no-head h ea = by-head go
+    where
+      never : {C : Type 0} (b : Bool) (d : Ellipsoid) (m : ℕ) → firstIn b d m ≡ q → C
+      never true d m e = let z : _≡_ {A = ℕ} 0 1 = cc in absurd (omega arith)
+      never false d m e = let z : _≡_ {A = ℕ} 0 1 = cc in absurd (omega arith)
+
+      go : (o : Got Head) → firstOf o ≡ q → Answered o
+      go noGot e = ea
+      go (got x m) e = never (ranged x) (surface x) m e
+
+  pub admit-out-of-range : (m : ℕ) → q ≡ FirstLine.OutOfRange m → a .outcome ≡ unlessBad (linesForm 2 (readLines 95 2 0 s m)) 4 1 → Admits s (ofForm (readSheet s)) a
+  unfolding sheetStep firstOf firstIn Admits unlessBad linesForm _thenᶠ_
+  admit-out-of-range m h ea = by-head go
+    where
+      by-lines : (x : Head) (f : Form (List Line)) → ranged x ≡ false → a .outcome ≡ unlessBad (linesForm 2 f) 4 1 → Admits s (ofForm (f thenᶠ (λ ls. formed (record { head = x; lines = ls })))) a
+      by-lines x (badLine j) er e = e
+      by-lines x (formed ls) er e = rw er e
+
+      in-it : (b : Bool) (x : Head) (k : ℕ) → ranged x ≡ b → firstIn b (surface x) k ≡ q → Answered (got x k)
+      in-it true x k er e = let z : _≡_ {A = ℕ} 0 1 = cc in absurd (omega arith)
+      in-it false x k er e = let i : m ≡ k = cc in by-lines x (readLines 95 2 0 s k) er (ea ∙ ap (λ k. unlessBad (linesForm 2 (readLines 95 2 0 s k)) 4 1) i)
+
+      go : (o : Got Head) → firstOf o ≡ q → Answered o
+      go noGot e = let z : _≡_ {A = ℕ} 0 1 = cc in absurd (omega arith)
+      go (got x k) e = in-it (ranged x) x k refl e
+
+  pub admit-in-range : (d : Ellipsoid) (m : ℕ) → q ≡ FirstLine.Is d m → LinesWalk (readLines 95 2 0 s m) d m a → Admits s (ofForm (readSheet s)) a
+  unfolding sheetStep firstOf firstIn Admits LinesWalk Walks walk _thenᶠ_
+  admit-in-range d m h w = by-head go
+    where
+      by-walk : (c : Sheet) → readLines 95 2 0 s m ≡ formed (c .lines) → (o : Walked) → Walks o (surface (c .head)) m a → Admits s (ofWalked c o) a
+      by-walk c el (passes cs) t = (m, el, t)
+      by-walk c el (refuses x j) t = t
+
+      by-lines : (x : Head) (f : Form (List Line)) → readLines 95 2 0 s m ≡ f → ranged x ≡ true → LinesWalk f (surface x) m a → Admits s (ofForm (f thenᶠ (λ ls. formed (record { head = x; lines = ls })))) a
+      by-lines x (badLine j) ef er t = t
+      by-lines x (formed ls) ef er t = rw er (by-walk (record { head = x; lines = ls }) ef (stepsᶜ (numbered 2 ls) startᶜ) t)
+
+      in-it : (b : Bool) (x : Head) (k : ℕ) → ranged x ≡ b → firstIn b (surface x) k ≡ q → Answered (got x k)
+      in-it true x k er e =
+          let i : m ≡ k = cc in
+          let j : d ≡ surface x = cc in
+          subst (λ k. Answered (got x k)) i (by-lines x (readLines 95 2 0 s m) refl er (subst (λ d. LinesWalk (readLines 95 2 0 s m) d m a) j w))
+      in-it false x k er e = let z : _≡_ {A = ℕ} 0 1 = cc in absurd (omega arith)
+
+      go : (o : Got Head) → firstOf o ≡ q → Answered o
+      go noGot e = let z : _≡_ {A = ℕ} 0 1 = cc in absurd (omega arith)
+      go (got x k) e = in-it (ranged x) x k refl e

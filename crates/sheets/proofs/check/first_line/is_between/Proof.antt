@@ -1,0 +1,13 @@
+-- `sheets::check::first_line::is_between` meets its contract. Assumes nothing.
+use mathlib.Core.Path.{refl}
+use Rattle.sheets.proofs.check.first_line.is_between.Statement.{statement}
+use Rattle.sheets.proofs.check.first_line.is_between.Tie as tie
+
+returns : tie.Need-returns
+returns c = rw (c .if1 .taken) refl
+
+returns-2 : tie.Need-returns-2
+returns-2 c = rw (c .if1 .left) refl
+
+pub is-between-spec : {M : Type 1} → statement M
+is-between-spec = tie.close (tie.spec returns returns-2)

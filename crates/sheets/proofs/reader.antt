@@ -1,0 +1,26 @@
+-- Laws of the grammar and of the reader, and of the code that reads.
+pub mod Spans
+pub mod ReaderLaws
+pub mod TokenLaws
+pub mod ExprLaws
+pub mod CodeLaws
+pub mod PieceLaws
+pub mod LineLaws
+pub mod SheetLaws
+pub mod FormLaws
+pub mod NumLaws
+pub mod LineNumbers
+pub mod TokenSteps
+pub mod Viewed
+pub mod DoubleSteps
+pub mod ExprSteps
+pub mod PieceSteps
+pub mod LineSteps
+pub mod HeadSteps
+pub mod FormSteps
+pub mod Inverse
+pub mod Walks
+pub mod Told
+pub mod FormMeans
+pub mod Slices
+pub mod RowSteps

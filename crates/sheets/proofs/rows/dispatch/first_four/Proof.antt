@@ -1,0 +1,26 @@
+-- `sheets::rows::dispatch::first_four` meets its contract. Assumes nothing.
+use Rattle.sheets.proofs.rows.AppliedLaws.{applies-same, first-are}
+use borrow.Author.Needs.{needs}
+use Rattle.sheets.proofs.rows.dispatch.first_four.Statement.{statement}
+use Rattle.sheets.proofs.rows.dispatch.first_four.Tie as tie
+
+array-copy-out-p : tie.Need-array-copy-out-p
+array-copy-out-p c = search needs
+
+array-copy-out-q : tie.Need-array-copy-out-q
+array-copy-out-q c = search needs
+
+array-copy-out-j : tie.Need-array-copy-out-j
+array-copy-out-j c = search needs
+
+array-copy-out-s : tie.Need-array-copy-out-s
+array-copy-out-s c = search needs
+
+apply-four-requires : tie.Need-apply-four-requires
+apply-four-requires c κs = search needs
+
+returns : tie.Need-returns
+returns c = applies-same _ _ _ _ (first-are (c .before .before .before .before .before .args .t3) (search needs) _ .3) _ (c .apply-four .ensures)
+
+pub first-four-spec : {M : Type 1} → statement M
+first-four-spec = tie.close (tie.spec array-copy-out-p array-copy-out-q array-copy-out-j array-copy-out-s apply-four-requires returns)

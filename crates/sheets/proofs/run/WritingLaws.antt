@@ -1,0 +1,135 @@
+-- Laws of writing bytes into a buffer one by one. Assumes nothing.
+use Prim.Native.Nat.{ℕ, zero, suc, _+_, _-_, _/_, _%_, _<_, _≤_}
+use native.Mathlib.Nat.{add-zero}
+use native.Mathlib.Numerals.{add-one, sub-one}
+use native.Mathlib.Omega.{arith}
+use mathlib.Core.Path.{_≡_, refl, sym, ap, _∙_, subst}
+use mathlib.Core.List.{List, [], _∷_, _++_, append-assoc}
+use lib.ListN.{length, getD, set, length-set, length-append, length-drop, take, drop}
+use lib.Seq.{sets, sets-eq, set-comm, take-append-seam, drop-append-add, drop-drop, drop-cons, length-take-le}
+use lib.Ieee.{Float, binary64, toBits}
+use Rattle.sheets.specs.Answers.{laid}
+use Rattle.sheets.specs.Output.{hexDigit, hex, field, fieldsText}
+use Rattle.sheets.specs.code.run.Writing.{writes, Written, part}
+use Rattle.sheets.proofs.run.TextBound.{hex-length}
+
+-- ---- writes
+
+pub writes-append : (a b d : List ℕ) (at : ℕ) → writes d at (a ++ b) ≡ writes (writes d at a) (at + length a) b
+unfolding writes
+writes-append [] b d at = rw add-zero refl
+writes-append (x ∷ a) b d at = writes-append a b (set d at x) (at + 1) ∙ ap (λ (n : ℕ). writes (writes (set d at x) (at + 1) a) n b) (omega arith)
+
+pub length-writes : (a d : List ℕ) (at : ℕ) → length (writes d at a) ≡ length d
+unfolding writes
+length-writes [] d at = refl
+length-writes (x ∷ a) d at = length-writes a (set d at x) (at + 1) ∙ length-set d at x
+
+writes-sets : (a d : List ℕ) (at : ℕ) → writes d at a ≡ sets d at a
+unfolding writes
+writes-sets [] d at = refl
+writes-sets (x ∷ a) d at = rw add-one (writes-sets a (set d at x) (suc at))
+
+-- the text from the place on, and all else as it was
+pub writes-is : (a d : List ℕ) (at : ℕ) → at + length a ≤ length d → writes d at a ≡ take at d ++ a ++ drop (at + length a) d
+writes-is a d at h = writes-sets a d at ∙ sets-eq a d at h
+
+-- a byte stored past a text
+pub writes-set : (a d : List ℕ) (at i x : ℕ) → at + length a ≤ i → set (writes d at a) i x ≡ writes (set d i x) at a
+unfolding writes
+writes-set [] d at i x h = refl
+writes-set (y ∷ a) d at i x h = writes-set a (set d at y) (at + 1) i x (omega arith) ∙ ap (λ e. writes e (at + 1) a) (set-comm d at i y x (λ e. absurd (omega arith)))
+
+-- ---- a text that grows at its end
+
+pub length-laid : (a d : List ℕ) → length a ≤ length d → length (laid a d) ≡ length d
+length-laid a d h = length-append a (drop (length a) d) ∙ ap (λ n. length a + n) (length-drop (length a) d) ∙ omega arith
+
+pub laid-more : (a b d : List ℕ) → length a + length b ≤ length d → writes (laid a d) (length a) b ≡ laid (a ++ b) d
+laid-more a b d h =
+    writes-is b (laid a d) (length a) (omega (arith, h, length-laid a d (omega arith)))
+    ∙ ap (λ x. x ++ b ++ drop (length a + length b) (laid a d)) (take-append-seam a (drop (length a) d))
+    ∙ ap (λ x. a ++ b ++ x) (drop-append-add a (drop (length a) d) (length b) ∙ drop-drop (length b) (length a) d)
+    ∙ ap (λ n. a ++ b ++ drop n d) (sym (length-append a b))
+
+pub laid-first : (b d : List ℕ) → length b ≤ length d → writes d 0 b ≡ laid b d
+laid-first b d h = laid-more [] b d (omega arith)
+
+-- ---- one text after another
+
+pub written-then : (a b : List ℕ) {d e f : List ℕ} {at m r : ℕ} → Written d at a e m → Written e m b f r → Written d at (a ++ b) f r
+written-then a b {d} {e} {f} {at} {m} {r} p q =
+    record {
+      is = q .is ∙ ap (λ n. writes e n b) (p .end) ∙ ap (λ x. writes x (at + length a) b) (p .is) ∙ sym (writes-append a b d at);
+      end = omega (arith, p .end, q .end, length-append a b);
+    }
+
+fields-append : (xs ys : List Float) → fieldsText (xs ++ ys) ≡ fieldsText xs ++ fieldsText ys
+fields-append [] ys = refl
+fields-append (x ∷ xs) ys = ap (λ t. field x ++ t) (fields-append xs ys) ∙ sym (append-assoc (field x) (fieldsText xs) (fieldsText ys))
+
+pub fields-then : (xs ys : List Float) {d e f : List ℕ} {at m r : ℕ} → Written d at (fieldsText xs) e m → Written e m (fieldsText ys) f r → Written d at (fieldsText (xs ++ ys)) f r
+fields-then xs ys p q = rw (fields-append xs ys) (written-then (fieldsText xs) (fieldsText ys) p q)
+
+-- a space and the digits of a double's bits
+pub field-written : (x : Float) (b : ℕ) → b ≡ toBits binary64 x → {d e f : List ℕ} {at m r : ℕ} → Written d at (32 ∷ []) e m → Written e m (hex 16 b []) f r → Written d at (fieldsText (x ∷ [])) f r
+field-written x b h {d} {e} {f} {at} {m} {r} p q = subst (λ k. Written d at (32 ∷ hex 16 k []) f r) h (written-then (32 ∷ []) (hex 16 b []) p q)
+
+-- ---- the digits, from the last one
+
+hex-append : (k n : ℕ) (t : List ℕ) → hex k n t ≡ hex k n [] ++ t
+hex-append zero n t = refl
+hex-append (suc k) n t =
+    hex-append k (n / 16) (hexDigit (n % 16) ∷ t)
+    ∙ sym (ap (λ x. x ++ t) (hex-append k (n / 16) (hexDigit (n % 16) ∷ [])) ∙ append-assoc (hex k (n / 16) []) (hexDigit (n % 16) ∷ []) t)
+
+-- the last of k + 1 digits is stored first
+hex-last : (k n : ℕ) (d : List ℕ) (at : ℕ) → writes d at (hex (suc k) n []) ≡ writes (set d (at + k) (hexDigit (n % 16))) at (hex k (n / 16) [])
+unfolding writes
+hex-last k n d at =
+    let y = hexDigit (n % 16) in
+    let h = hex k (n / 16) [] in
+    let l : length h ≡ k = hex-length k (n / 16) [] ∙ add-zero k in
+    ap (writes d at) (hex-append k (n / 16) (y ∷ []))
+    ∙ writes-append h (y ∷ []) d at
+    ∙ ap (λ i. set (writes d at h) (at + i) y) l
+    ∙ writes-set h d at (at + k) y (omega (arith, l))
+
+-- one turn of the loop over the digits
+pub hex-turn : (o d : List ℕ) (at left rest x : ℕ) (a : List ℕ) → 0 < left → x ≡ hexDigit (rest % 16)
+    → writes o at (hex left rest []) ≡ writes d at a → writes (set o (at + (left - 1)) x) at (hex (left - 1) (rest / 16) []) ≡ writes d at a
+hex-turn o d at zero rest x a pos e inv = absurd (omega arith)
+hex-turn o d at (suc k) rest x a pos e inv = rw (e, sub-one) (sym (hex-last k rest o at) ∙ inv)
+
+pub hex-written : (o d : List ℕ) (at left rest n : ℕ) → left ≤ 0 → writes o at (hex left rest []) ≡ writes d at (hex 16 n []) → Written d at (hex 16 n []) o (at + 16)
+unfolding writes
+hex-written o d at zero rest n le inv = record { is = inv; end = ap (λ k. at + k) (sym (hex-length 16 n [])) }
+hex-written o d at (suc k) rest n le inv = absurd (omega arith)
+
+-- ---- the name, from the first byte
+
+part-cons : (s : List ℕ) (i n : ℕ) → i < n → n ≤ length s → part s i n ≡ getD s i 0 ∷ part s (i + 1) n
+part-cons s i n h le = ap (take (n - i)) (drop-cons s i 0 (omega arith)) ∙ ap (λ k. take k (getD s i 0 ∷ drop (suc i) s)) e ∙ ap (λ k. getD s i 0 ∷ take (n - (i + 1)) (drop k s)) (sym (add-one i))
+  where
+    e : n - i ≡ suc (n - (i + 1))
+    e = omega arith
+
+pub name-turn : (o d s : List ℕ) (at i m n : ℕ) (a : List ℕ) → i < n → n ≤ length s
+    → writes o m (part s i n) ≡ writes d at a → writes (set o m (getD s i 0)) (m + 1) (part s (i + 1) n) ≡ writes d at a
+unfolding writes
+name-turn o d s at i m n a h le inv = ap (writes o m) (sym (part-cons s i n h le)) ∙ inv
+
+pub part-length : (s : List ℕ) (i n : ℕ) → n ≤ length s → length (part s i n) ≡ n - i
+part-length s i n le = length-take-le (n - i) (drop i s) (omega (arith, le, length-drop i s))
+
+pub name-written : (o d s : List ℕ) (at from i m n : ℕ) → n ≤ i → i ≤ n → m + (n - i) ≡ at + (n - from) → n ≤ length s
+    → writes o m (part s i n) ≡ writes d at (part s from n) → Written d at (part s from n) o m
+unfolding writes
+name-written o d s at from i m n le ge e k inv =
+    record {
+      is = ap (λ j. writes o m (take j (drop i s))) z ∙ inv;
+      end = omega (arith, e, part-length s from n k);
+    }
+  where
+    z : 0 ≡ n - i
+    z = omega arith

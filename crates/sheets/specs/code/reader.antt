@@ -1,0 +1,4 @@
+-- The reader, and what its functions' answers mean.
+pub mod Codes
+pub mod Reader
+pub mod Views

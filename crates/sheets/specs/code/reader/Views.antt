@@ -1,0 +1,112 @@
+-- The contracts' views: what the code answers, said of what the reader of Reader.antt reads.
+-- No part of what must be believed: they only tie the code to the reader, and what the code does for a sheet is said by the grammar and the claim.
+use Prim.Native.Nat.{ℕ, _+_, _-_, _*_, _≤_}
+use Prim.Native.String.{String}
+use mathlib.Core.Path.{_≡_}
+use mathlib.Core.List.{List}
+use lib.ListN.{length, getD}
+use Rattle.sheets.specs.Text.{Word, ascii}
+use Rattle.sheets.specs.Trees.{Num, decimalFrom, numDigits, Line, let-line, show-line, Head, wgs84, custom, Sheet}
+use Rattle.sheets.specs.code.reader.Codes.{codeOf}
+use Rattle.sheets.specs.code.reader.Reader.{Got, none, got, closing, limit, Begun, let-word, whole, Form, formed, badLine}
+use Rattle.sheets.specs.Limits.{numValue}
+use Rattle.sheets.specs.declared.reader.bytes.WordRead.{WordRead}
+use Rattle.sheets.specs.declared.reader.num.DigitsRead.{DigitsRead}
+use Rattle.sheets.specs.declared.reader.num.Numeral.{Numeral}
+use Rattle.sheets.specs.declared.reader.num.NumRead.{NumRead}
+use Rattle.sheets.specs.declared.reader.num.DoubleRead.{DoubleRead}
+use Rattle.sheets.specs.declared.reader.expr.Read.{Read}
+use Rattle.sheets.specs.declared.reader.lines.NameAt.{NameAt}
+use Rattle.sheets.specs.declared.reader.lines.NameRead.{NameRead}
+use Rattle.sheets.specs.declared.reader.lines.LineHead.{LineHead}
+use Rattle.sheets.specs.declared.reader.head.HeadRead.{HeadRead}
+use Rattle.sheets.specs.declared.reader.form.FormRead.{FormRead}
+
+-- ---- bytes and characters
+
+-- r is the byte of s at a place, 0 at the end and past it
+pub record ByteAt (s : List ℕ) (at r : ℕ) : Type 0 where
+  pub is : r ≡ getD s at 0
+  pub inside : r ≤ 255 * (length s - at)
+
+-- r is the number n, at most `most`, that the byte b stands for, 0 for none
+pub record CharOf (most n b r : ℕ) : Type 0 where
+  pub is : r ≡ n
+  pub small : r ≤ most
+  pub from-byte : r ≤ b
+
+-- ---- words, numbers, expressions
+
+-- the place after what was read
+unfoldable pub place : {A : Type 0} → Got A → Read
+place none = Read.Bad
+place (got x n) = Read.At n
+
+-- the place after `)` and LF
+abbrev pub closed : List ℕ → ℕ → Read
+closed s at = place (closing {A = Unit {0}} tt s at)
+
+-- the place n after a line that stands at a place, if it has at most 200 bytes
+abbrev pub shortEnd : ℕ → ℕ → Read
+shortEnd at n = place {A = Unit {0}} (limit at (got tt n))
+
+-- a word by its code
+unfoldable pub coded : Got Word → WordRead
+coded none = WordRead.Not
+coded (got w n) = WordRead.Is (codeOf w) n
+
+-- the digits ds, which stand at a place, after digits that made the number `before`
+abbrev pub digitsRead : ℕ → List ℕ → ℕ → DigitsRead
+digitsRead before ds at = record { value = decimalFrom before ds; count = length ds; end = at + length ds }
+
+-- a NUM by all its digits as one number and how many of them stand behind the point
+abbrev pub numeralOf : Num → ℕ → Numeral
+numeralOf q n = record { minus = q .minus; digits = numDigits q; behind = length (q .part); end = n }
+
+unfoldable pub counted : Got Num → NumRead
+counted none = NumRead.Not
+counted (got q n) = NumRead.Is (numeralOf q n)
+
+-- a NUM by its double
+unfoldable pub doubled : Got Num → DoubleRead
+doubled none = DoubleRead.Not
+doubled (got q n) = DoubleRead.Is (numValue q) n
+
+-- ---- lines
+
+-- the word w, which stands at a place
+abbrev pub nameAt : Word → ℕ → NameAt
+nameAt w at = record { code = codeOf w; from = at; end = at + length w }
+
+unfoldable pub namedAt : ℕ → Got Word → NameRead
+namedAt at none = NameRead.Not
+namedAt at (got w n) = NameRead.Is (nameAt w at) n
+
+-- the place behind `(`, the word that opens the line at a place, and a space
+abbrev pub behind : String → ℕ → ℕ
+behind k at = at + length (ascii k) + 2
+
+-- the head of the line at a place: its word, and the place of its expression or of the next line; a let is never read whole
+unfoldable pub lineHead : ℕ → Got Begun → LineHead
+lineHead at none = LineHead.Bad
+lineHead at (got (let-word w) n) = LineHead.Let (nameAt w (behind "let" at)) n
+lineHead at (got (whole (show-line w)) n) = LineHead.Show (nameAt w (behind "show" at)) n
+lineHead at (got (whole (let-line w x)) n) = LineHead.Bad
+
+-- line 1: its two numbers as doubles, where it has them, and the place of the next line
+unfoldable pub headOf : Got Head → HeadRead
+headOf none = HeadRead.Bad
+headOf (got wgs84 n) = HeadRead.Wgs n
+headOf (got (custom p q) n) = HeadRead.Custom (numValue p) (numValue q) n
+
+-- ---- the sheet
+
+-- the number of the last line, or the first that is not of the grammar, where the lines from line i on come to this
+unfoldable pub linesForm : ℕ → Form (List Line) → FormRead
+linesForm i (formed ls) = FormRead.Fine (i - 1 + length ls)
+linesForm i (badLine j) = FormRead.Bad j
+
+-- how many lines it has, or the first that is not of the grammar
+unfoldable pub formOf : Form Sheet → FormRead
+formOf (formed c) = FormRead.Fine (length (c .lines) + 1)
+formOf (badLine i) = FormRead.Bad i

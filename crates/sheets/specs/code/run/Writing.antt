@@ -1,0 +1,48 @@
+-- No part of what must be believed: what the code that prints a value answers, which ties the code to Output.
+use Prim.Native.Nat.{ℕ, _+_, _-_}
+use mathlib.Core.Path.{_≡_}
+use mathlib.Core.Bool.{Bool, true, false, _&&_}
+use mathlib.Core.List.{List, [], _∷_}
+use lib.Dec.{leb}
+use lib.ListN.{length, set, take, drop}
+use lib.Ieee.{Float}
+use Rattle.numbers.specs.declared.mat33.Mat33.{Mat33}
+use Rattle.sheets.specs.declared.rows.value.Value.{Value}
+use Rattle.sheets.specs.Text.{_⌢_}
+use Rattle.sheets.specs.Kinds.{kindOf, kindName}
+use Rattle.sheets.specs.Output.{fields, fieldsText, outputLine}
+
+-- a buffer after bytes were stored one by one from a place on
+unfoldable pub writes : List ℕ → ℕ → List ℕ → List ℕ
+writes d at [] = d
+writes d at (b ∷ bs) = writes (set d at b) (at + 1) bs
+
+-- the bytes were written at a place, the rest of the buffer is as it was, and the answer is the place after them
+pub record Written (d : List ℕ) (at : ℕ) (text : List ℕ) (d′ : List ℕ) (r : ℕ) : Type 0 where
+  pub is : d′ ≡ writes d at text
+  pub end : r ≡ at + length text
+
+-- a matrix by rows
+abbrev pub byRows : Mat33 → List Float
+byRows m = m .r0 .x ∷ m .r0 .y ∷ m .r0 .z ∷ m .r1 .x ∷ m .r1 .y ∷ m .r1 .z ∷ m .r2 .x ∷ m .r2 .y ∷ m .r2 .z ∷ []
+
+-- the bytes from `from` to `end`
+abbrev pub part : List ℕ → ℕ → ℕ → List ℕ
+part s from end = take (end - from) (drop from s)
+
+-- kind and fields
+unfoldable pub valueText : Value → List ℕ
+valueText x = kindName (kindOf x) ⌢ fieldsText (fields x)
+
+-- the name is a part of at most 12 bytes of a sheet of n bytes, and the longest line of such a name, 223 bytes, has room in a buffer of m
+unfoldable pub fitting : ℕ → ℕ → ℕ → ℕ → ℕ → Bool
+fitting n from end m at = leb from end && (leb end n && (leb (end - from) 12 && leb (at + 223) m))
+
+-- whether a line is written
+abbrev pub room : List ℕ → ℕ → ℕ → List ℕ → ℕ → Bool
+room s from end d at = fitting (length s) from end (length d) at
+
+-- the line of a value under the name that the sheet has there, where there is room
+unfoldable pub lineIf : Bool → List ℕ → ℕ → ℕ → Value → List ℕ
+lineIf true s from end x = outputLine (part s from end) x
+lineIf false s from end x = []

@@ -1,0 +1,177 @@
+// The lines of a sheet after line 1. `line_head` gives what every reader of a line begins with; `line_end` reads on to its end.
+use crate::reader::bytes::WordRead;
+use crate::reader::bytes::byte;
+use crate::reader::bytes::word;
+use crate::reader::expr::Read;
+use crate::reader::expr::expr;
+use crate::reader::words;
+ghost use mathlib.Core.Path.{_≡_};
+ghost use Prim.Native.Nat.{_+_};
+ghost use lib.Dec.{leb};
+ghost use Rattle.sheets.specs.code.reader.Reader.{readWord, opening, spaced, first, one, readBegun, readLine};
+ghost use Rattle.sheets.specs.code.reader.Views.{place, closed, shortEnd, coded, namedAt, lineHead};
+
+// A line's word: its code, the place of its first byte, and the place after it.
+pub struct NameAt {
+    pub code: u64,
+    pub from: usize,
+    pub end: usize,
+}
+
+// A word, and the place after what was read with it.
+pub enum NameRead {
+    Is(NameAt, usize),
+    Not,
+}
+
+// What a line is, with its word: of a let the place of its expression, of any other line the place of the next one.
+pub enum LineHead {
+    Let(NameAt, usize),
+    Show(NameAt, usize),
+    Bad,
+}
+
+// `(` and a word.
+pub fn opening(s: &[u8], at: usize) -> WordRead
+    ensures { λ r. ⌜ r ≡ coded (opening (now (s .entry)) at) ⌝ }
+{
+    let b = byte(s, at);
+    if b == 40 {
+        return word(s, at + 1);
+    }
+    WordRead::Not
+}
+
+// A space and a word.
+pub fn word_slot(s: &[u8], at: usize) -> WordRead
+    ensures { λ r. ⌜ r ≡ coded (spaced (readWord (now (s .entry))) (now (s .entry)) at) ⌝ }
+{
+    let b = byte(s, at);
+    if b == 32 {
+        return word(s, at + 1);
+    }
+    WordRead::Not
+}
+
+// `)` and LF.
+pub fn closing(s: &[u8], at: usize) -> Read
+    ensures { λ r. ⌜ r ≡ closed (now (s .entry)) at ⌝ }
+{
+    let b = byte(s, at);
+    if b == 41 {
+        let c = byte(s, at + 1);
+        if c == 10 {
+            return Read::At(at + 2);
+        }
+    }
+    Read::Bad
+}
+
+// A space, a word, and the end of the line.
+pub fn one_word(s: &[u8], at: usize) -> NameRead
+    ensures { λ r. ⌜ r ≡ namedAt (at + 1) (one readWord (λ w. w) (now (s .entry)) at) ⌝ }
+{
+    let w = word_slot(s, at);
+    let WordRead::Is(code, n) = w else {
+        return NameRead::Not;
+    };
+    let c = closing(s, n);
+    let Read::At(next) = c else {
+        return NameRead::Not;
+    };
+    let name = NameAt {
+        code,
+        from: at + 1,
+        end: n,
+    };
+    NameRead::Is(name, next)
+}
+
+// A space, a word, and the space before the next part.
+fn first_word(s: &[u8], at: usize) -> NameRead
+    ensures { λ r. ⌜ r ≡ namedAt (at + 1) (first readWord (λ w. w) (now (s .entry)) at) ⌝ }
+{
+    let w = word_slot(s, at);
+    let WordRead::Is(code, n) = w else {
+        return NameRead::Not;
+    };
+    let b = byte(s, n);
+    if b == 32 {
+        let name = NameAt {
+            code,
+            from: at + 1,
+            end: n,
+        };
+        return NameRead::Is(name, n + 1);
+    }
+    NameRead::Not
+}
+
+// Which line stands at a place, by the word that opens it.
+pub fn line_head(s: &[u8], at: usize) -> LineHead
+    ensures { λ r. ⌜ r ≡ lineHead at (readBegun (now (s .entry)) at) ⌝ }
+{
+    let k = opening(s, at);
+    let WordRead::Is(code, n) = k else {
+        return LineHead::Bad;
+    };
+    match code {
+        words::LET => {
+            let r = first_word(s, n);
+            match r {
+                NameRead::Is(name, value) => LineHead::Let(name, value),
+                NameRead::Not => LineHead::Bad,
+            }
+        }
+        words::SHOW => {
+            let r = one_word(s, n);
+            match r {
+                NameRead::Is(name, next) => LineHead::Show(name, next),
+                NameRead::Not => LineHead::Bad,
+            }
+        }
+        _ => LineHead::Bad,
+    }
+}
+
+// Whether a line that stands at `at` has at most 200 bytes, where the next one stands at `next`.
+pub fn is_short(at: usize, next: usize) -> bool
+    ensures { λ r. ⌜ r ≡ leb next (at + 200) ⌝ }
+{
+    if 200 < next {
+        return next - 200 <= at;
+    }
+    true
+}
+
+// The end of a line of at most 200 bytes.
+fn short_end(at: usize, next: usize) -> Read
+    ensures { λ r. ⌜ r ≡ shortEnd at next ⌝ }
+{
+    if is_short(at, next) {
+        return Read::At(next);
+    }
+    Read::Bad
+}
+
+// The place after the line at a place.
+pub fn line_end(s: &[u8], at: usize) -> Read
+    ensures { λ r. ⌜ r ≡ place (readLine (now (s .entry)) at) ⌝ }
+{
+    let h = line_head(s, at);
+    match h {
+        LineHead::Bad => Read::Bad,
+        LineHead::Show(_, next) => short_end(at, next),
+        LineHead::Let(_, value) => {
+            let x = expr(s, value, 11);
+            let Read::At(n) = x else {
+                return Read::Bad;
+            };
+            let c = closing(s, n);
+            let Read::At(next) = c else {
+                return Read::Bad;
+            };
+            short_end(at, next)
+        }
+    }
+}
