@@ -1,6 +1,7 @@
 // What the comparison of sheets has come to: counts by refusal, by sort and by operator.
 use crate::beside::{Compared, Counts};
 use crate::make::Sort;
+use crate::sheet;
 use crate::sheet::words::Op;
 
 const NUMBERS: usize = 9;
@@ -18,6 +19,8 @@ pub struct Tally {
     total: u64,
     // those whose run meets the line of request One
     request_one: u64,
+    // those refused 3 at a line behind one that 4, 5 or 6 would refuse
+    behind: u64,
     pub different: u64,
 }
 
@@ -32,6 +35,7 @@ impl Tally {
             written: 0,
             total: 0,
             request_one: 0,
+            behind: 0,
             different: 0,
         }
     }
@@ -43,6 +47,7 @@ impl Tally {
         self.written += compared.run.written;
         self.total += 1;
         self.request_one += compared.request_one as u64;
+        self.behind += (compared.check.number == 3 && refused_before(&compared.made.sheet, compared.check.line)) as u64;
         self.different += !compared.differences.is_empty() as u64;
     }
 
@@ -63,9 +68,16 @@ impl Tally {
             });
             println!("{}", cells.collect::<String>());
         }
+        println!("of those that the check refuses 3, behind a line that 4, 5 or 6 would refuse: {}", self.behind);
         let Tally { bytes, written, total, request_one, different, .. } = self;
         println!("total: {total} sheets of {bytes} bytes, {written} bytes written, {request_one} meet request One, {different} different");
     }
+}
+
+// Whether the lines before this one alone would be refused 4, 5 or 6.
+fn refused_before(text: &[u8], line: u32) -> bool {
+    let before: Vec<u8> = text.split_inclusive(|&byte| byte == b'\n').take(line as usize - 1).flatten().copied().collect();
+    (4..=6).contains(&sheet::check(&before, &mut [0; 96]).0)
 }
 
 fn row(counts: &[u64]) -> String {
