@@ -15,7 +15,7 @@ use Rattle.sheets.specs.Machine.{surface}
 use Rattle.sheets.specs.Answers.{ranged}
 use Rattle.sheets.specs.code.reader.Views.{headOf}
 use Rattle.sheets.specs.declared.reader.head.HeadRead.{HeadRead}
-use Rattle.sheets.proofs.reader.Told.{told-no-head, told-wgs, told-custom}
+use Rattle.sheets.proofs.reader.Told.{head-told}
 use Rattle.sheets.specs.code.check.FirstLines.{firstIn, firstOf}
 use Rattle.sheets.specs.declared.check.first_line.FirstLine.{FirstLine}
 
@@ -44,15 +44,15 @@ module _ (x y : Float) (n : ℕ) (t : Bool) (et : t ≡ (between (num 1000000) (
 module _ (s : List ℕ) (r : HeadRead) (t : r ≡ headOf (readHead s)) where
   pub first-bad : r ≡ HeadRead.Bad → FirstLine.Bad ≡ firstOf (readHead s)
   unfolding firstOf
-  first-bad h = rw (told-no-head (readHead s) r t h) refl
+  first-bad h = ap firstOf (sym (head-told (readHead s) r t _ h))
 
   pub first-wgs : (n : ℕ) → r ≡ HeadRead.Wgs n → (o : Ellipsoid) → o ≡ surfaceWgs84 → FirstLine.Is o n ≡ firstOf (readHead s)
   unfolding firstOf firstIn ranged surface
-  first-wgs n h o eo = rw (told-wgs (readHead s) r t n h) (ap (λ z. FirstLine.Is z n) eo)
+  first-wgs n h o eo = ap (λ z. FirstLine.Is z n) eo ∙ ap firstOf (sym (head-told (readHead s) r t _ h))
 
   pub first-custom : (x y : Float) (n : ℕ) → r ≡ HeadRead.Custom x y n → (f : FirstLine)
       → f ≡ firstIn (between (num 1000000) (num 10000000) x && between (num 100) (num 1000) y) (ellipsoid (metres x) y) n → f ≡ firstOf (readHead s)
   unfolding firstOf ranged surface
   first-custom x y n h f ef =
-      let (p, q, eo, ex, ey) = told-custom (readHead s) r t x y n h in
+      let (p, q, eo, ex, ey) = head-told (readHead s) r t _ h in
       ef ∙ ap₂ (λ a b. firstIn (between (num 1000000) (num 10000000) a && between (num 100) (num 1000) b) (ellipsoid (metres a) b) n) ex ey ∙ sym (ap firstOf eo)

@@ -1,14 +1,14 @@
 -- The lines after line 1, a step at a time, as the code reads them: what the answer of `line_head` says, and a law for each way out. Assumes nothing.
 use Prim.Native.Nat.{ℕ, _+_, _-_, _<_}
 use native.Mathlib.Omega.{arith}
-use mathlib.Core.Path.{_≡_, refl, sym, ap, ap₂, _∙_}
+use mathlib.Core.Path.{_≡_, refl, sym, ap, ap₂, _∙_, subst}
 use mathlib.Core.Bool.{Bool, true, false}
 use mathlib.Core.List.{List, _∷_}
 use lib.Dec.{eqb, leb}
 use lib.ListN.{length, getD}
 use borrow.Author.Tests.{ne-eqb, le-leb, lt-leb, leb-true, leb-false}
 use Rattle.sheets.specs.Text.{Word, ascii}
-use Rattle.sheets.specs.Trees.{let-line, show-line}
+use Rattle.sheets.specs.Trees.{Line, let-line, show-line}
 use Rattle.sheets.specs.Grammar.{IsWord}
 use Rattle.sheets.specs.code.reader.Codes.{letter, wordChar, codeFrom, codeOf}
 use Rattle.sheets.specs.code.reader.Reader.{Got, none, got, _then_, charsIf, chars, wordIf, readWord, readExpr, orElse, nothing, opening, spaced, closing, limit, more, first, one, fromRows, readRows, Begun, let-word, whole, lineRows, readBegun, rest, readLine}
@@ -73,37 +73,21 @@ begun-headed s at =
     holds-or Headed (eqb (codeOf k) (codeOf (ascii "show"))) _ _ n (λ e. word-headed _ s (λ w m h. closing-holds Headed (whole (show-line w)) s m (λ i. h)) n) (λ e.
     holds-none Headed)))
 
--- what `line_head` answered says of the line
-module _ (s : List ℕ) (at : ℕ) (r : LineHead) (er : r ≡ lineHead at (readBegun s at)) where
-  pub head-bad : r ≡ LineHead.Bad → readLine s at ≡ none
-  unfolding readLine lineHead Headed Holds limit _then_
-  head-bad h = go (readBegun s at) (begun-headed s at) er
-    where
-      go : (o : Got Begun) → Holds Headed o → r ≡ lineHead at o → limit at (o then rest s) ≡ none
-      go none t e = refl
-      go (got (let-word w) n) t e = let z : _≡_ {A = ℕ} 0 1 = cc in absurd (omega arith)
-      go (got (whole (show-line w)) n) t e = let z : _≡_ {A = ℕ} 0 1 = cc in absurd (omega arith)
-      go (got (whole (let-line w x)) n) t e = absurd t
+-- what an answer of `line_head` says of the line that is read at a place
+abbrev Says : List ℕ → ℕ → Got Line → LineHead → Type 0
+Says s at o LineHead.Bad = o ≡ none
+Says s at o (LineHead.Let name n) = (w : Word) × IsWord w × (codeOf w ≡ name .code) × (o ≡ limit at (rest s (let-word w) n))
+Says s at o (LineHead.Show name n) = (w : Word) × IsWord w × (codeOf w ≡ name .code) × (o ≡ limit at (rest s (whole (show-line w)) n))
 
-  pub head-show : (name : NameAt) (n : ℕ) → r ≡ LineHead.Show name n → (w : Word) × IsWord w × (codeOf w ≡ name .code) × (readLine s at ≡ limit at (got (show-line w) n))
-  unfolding readLine lineHead Headed Holds rest _then_
-  head-show name n h = go (readBegun s at) (begun-headed s at) er
-    where
-      go : (o : Got Begun) → Holds Headed o → r ≡ lineHead at o → (w : Word) × IsWord w × (codeOf w ≡ name .code) × (limit at (o then rest s) ≡ limit at (got (show-line w) n))
-      go none t e = let z : _≡_ {A = ℕ} 0 1 = cc in absurd (omega arith)
-      go (got (let-word w) m) t e = let z : _≡_ {A = ℕ} 0 1 = cc in absurd (omega arith)
-      go (got (whole (show-line w)) m) t e = let i : nameAt w (behind "show" at) ≡ name = cc in let j : m ≡ n = cc in (w, t, ap (λ (y : NameAt). y .code) i, ap (λ k. limit at (got (show-line w) k)) j)
-      go (got (whole (let-line w x)) m) t e = absurd t
-
-  pub head-let : (name : NameAt) (n : ℕ) → r ≡ LineHead.Let name n → (w : Word) × IsWord w × (codeOf w ≡ name .code) × (readLine s at ≡ limit at (readExpr 11 s n then (λ x m. closing (let-line w x) s m)))
-  unfolding readLine lineHead Headed Holds rest _then_
-  head-let name n h = go (readBegun s at) (begun-headed s at) er
-    where
-      go : (o : Got Begun) → Holds Headed o → r ≡ lineHead at o → (w : Word) × IsWord w × (codeOf w ≡ name .code) × (limit at (o then rest s) ≡ limit at (readExpr 11 s n then (λ x m. closing (let-line w x) s m)))
-      go none t e = let z : _≡_ {A = ℕ} 0 1 = cc in absurd (omega arith)
-      go (got (let-word w) m) t e = let i : nameAt w (behind "let" at) ≡ name = cc in let j : m ≡ n = cc in (w, t, ap (λ (y : NameAt). y .code) i, ap (λ k. limit at (rest s (let-word w) k)) j)
-      go (got (whole (show-line w)) m) t e = let z : _≡_ {A = ℕ} 0 1 = cc in absurd (omega arith)
-      go (got (whole (let-line w x)) m) t e = absurd t
+pub head-says : (s : List ℕ) (at : ℕ) (r : LineHead) → r ≡ lineHead at (readBegun s at) → (q : LineHead) → r ≡ q → Says s at (readLine s at) q
+unfolding readLine lineHead Headed Holds limit _then_
+head-says s at r er q h = subst (Says s at (readLine s at)) (sym er ∙ h) (go (readBegun s at) (begun-headed s at))
+  where
+    go : (o : Got Begun) → Holds Headed o → Says s at (limit at (o then rest s)) (lineHead at o)
+    go none t = refl
+    go (got (let-word w) n) t = (w, t, refl, refl)
+    go (got (whole (show-line w)) n) t = (w, t, refl, refl)
+    go (got (whole (let-line w x)) n) t = absurd t
 
 -- ---- a line that a word opens
 module _ (s : List ℕ) (at : ℕ) (r : WordRead) (er : r ≡ coded (opening s at)) where
@@ -188,26 +172,28 @@ short-is {A} x at n = go (leb n (at + 200))
 module _ (s : List ℕ) (at : ℕ) (r : LineHead) (er : r ≡ lineHead at (readBegun s at)) where
   pub end-bad : r ≡ LineHead.Bad → Read.Bad ≡ place (readLine s at)
   unfolding place
-  end-bad h = ap place (sym (head-bad s at r er h))
+  end-bad h = ap place (sym (head-says s at r er _ h))
 
   pub end-show : (y : NameAt) (n : ℕ) → r ≡ LineHead.Show y n → (v : Read) → v ≡ shortEnd at n → v ≡ place (readLine s at)
-  end-show y n h v ev = let (w, hw, ew, e) = head-show s at r er y n h in ev ∙ short-is (show-line w) at n ∙ ap place (sym e)
+  unfolding rest
+  end-show y n h v ev = let (w, hw, ew, e) = head-says s at r er _ h in ev ∙ short-is (show-line w) at n ∙ ap place (sym e)
 
   module _ (y : NameAt) (n : ℕ) (h : r ≡ LineHead.Let y n) (x : Read) (ex : x ≡ place (readExpr 11 s n)) where
     pub end-no-expr : x ≡ Read.Bad → Read.Bad ≡ place (readLine s at)
-    unfolding place limit
-    end-no-expr i = let (w, hw, ew, e) = head-let s at r er y n h in ap place (sym (e ∙ ap (limit at) (then-none (readExpr 11 s n) _ (placed-none _ x ex i))))
+    unfolding place limit rest
+    end-no-expr i = let (w, hw, ew, e) = head-says s at r er _ h in ap place (sym (e ∙ ap (limit at) (then-none (readExpr 11 s n) _ (placed-none _ x ex i))))
 
     module _ (m : ℕ) (i : x ≡ Read.At m) (c : Read) (ec : c ≡ closed s m) where
       pub end-no-end : c ≡ Read.Bad → Read.Bad ≡ place (readLine s at)
-      unfolding place limit
+      unfolding place limit rest
       end-no-end j =
-          let (w, hw, ew, e) = head-let s at r er y n h in
+          let (w, hw, ew, e) = head-says s at r er _ h in
           let (z, ez) = placed-got _ x ex m i in
           ap place (sym (e ∙ ap (limit at) (then-got (readExpr 11 s n) _ z m ez ∙ closing-none (let-line w z) s m c ec j)))
 
       pub end-let : (k : ℕ) → c ≡ Read.At k → (v : Read) → v ≡ shortEnd at k → v ≡ place (readLine s at)
+      unfolding rest
       end-let k j v ev =
-          let (w, hw, ew, e) = head-let s at r er y n h in
+          let (w, hw, ew, e) = head-says s at r er _ h in
           let (z, ez) = placed-got _ x ex m i in
           ev ∙ short-is (let-line w z) at k ∙ ap place (sym (e ∙ ap (limit at) (then-got (readExpr 11 s n) _ z m ez ∙ closing-got (let-line w z) s m c ec k j)))

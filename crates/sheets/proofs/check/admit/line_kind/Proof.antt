@@ -2,7 +2,7 @@
 use borrow.Author.Needs.{needs}
 use Rattle.sheets.specs.code.reader.Reader.{rest}
 use Rattle.sheets.proofs.check.LineKindSteps.{line-nothing, line-word}
-use Rattle.sheets.proofs.reader.LineSteps.{head-bad, head-let, head-show}
+use Rattle.sheets.proofs.reader.LineSteps.{head-says}
 use Rattle.sheets.proofs.check.admit.line_kind.Statement.{statement}
 use Rattle.sheets.proofs.check.admit.line_kind.Tie as tie
 
@@ -31,14 +31,14 @@ short-kind-requires-2 : tie.Need-short-kind-requires-2
 short-kind-requires-2 c κs = search needs
 
 returns : tie.Need-returns
-returns c = record { is = λ ps st. line-nothing _ (head-bad _ _ _ (c .before .before .line-head .ensures) (c .enum-told .given .1)) ps _ }
+returns c = record { is = λ ps st. line-nothing _ (head-says _ _ _ (c .before .before .line-head .ensures) _ (c .enum-told .given .1)) ps _ }
 
 returns-2 : tie.Need-returns-2
-unfolding rest
-returns-2 c = record { is = λ ps st. line-word _ _ ps _ _ (head-let _ _ _ (c .before .before .before .before .before .line-head .ensures) _ _ (c .before .before .before .h .given .1)) _ (c .before .let-kind .ensures .is ps st) _ (c .short-kind .ensures) }
+returns-2 c = record { is = λ ps st. line-word _ _ ps _ _ (head-says _ _ _ (c .before .before .before .before .before .line-head .ensures) _ (c .before .before .before .h .given .1)) _ (c .before .let-kind .ensures .is ps st) _ (c .short-kind .ensures) }
 
 returns-3 : tie.Need-returns-3
-returns-3 c = record { is = λ ps st. line-word _ _ ps _ _ (head-show _ _ _ (c .before .before .before .before .before .line-head .ensures) _ _ (c .before .before .before .h2 .given .1)) _ (c .before .known-kind .ensures .is ps st) _ (c .short-kind2 .ensures) }
+unfolding rest
+returns-3 c = record { is = λ ps st. line-word _ _ ps _ _ (head-says _ _ _ (c .before .before .before .before .before .line-head .ensures) _ (c .before .before .before .h2 .given .1)) _ (c .before .known-kind .ensures .is ps st) _ (c .short-kind2 .ensures) }
 
 pub line-kind-spec : {M : Type 1} → statement M
 line-kind-spec =
