@@ -9,10 +9,10 @@ use lib.ListN.{length, drop}
 use lib.Seq.{drop-append-seam}
 use lib.Ieee.{Float}
 use borrow.Author.Tests.{eqb-true}
-use Rattle.sheets.specs.Trees.{Line, let-line, show-line, Sheet}
+use Rattle.sheets.specs.Trees.{Line, Sheet}
 use Rattle.sheets.specs.Grammar.{Form, Reads}
 use Rattle.sheets.specs.Kinds.{Kind}
-use Rattle.sheets.specs.Names.{Known, givenOn}
+use Rattle.sheets.specs.Names.{Known}
 use Rattle.sheets.specs.Refusals.{limit, centre, refusalNumber}
 use Rattle.sheets.specs.Machine.{Ran, done, stopped, machine}
 use Rattle.sheets.specs.Admitted.{LinesFit}
@@ -71,8 +71,7 @@ output-confined S R out r out′ o = go (verdict (lentRun R out) S (o .form-is))
 
 codes-length : (xs : List Line) (i : ℕ) (ks : Known Kind) (cs : List ℕ) → LinesFit i ks xs cs → length cs ≡ length xs
 codes-length [] i ks cs e = ap length (sym e)
-codes-length (let-line w x ∷ xs) i ks cs (k, ds, hk, a, b, h, e) = ap length (sym e) ∙ ap (λ n. suc n) (codes-length xs (suc i) (givenOn i w k ∷ ks) ds h)
-codes-length (show-line w ∷ xs) i ks cs (k, ds, hk, h, e) = ap length (sym e) ∙ ap (λ n. suc n) (codes-length xs (suc i) ks ds h)
+codes-length (l ∷ xs) i ks cs (js, n, ds, f, h, e) = ap length (sym e) ∙ ap (λ n. suc n) (codes-length xs (suc i) js ds h)
 
 pub list-confined : (S kinds : List ℕ) (r : CheckAnswer) (kinds′ : List ℕ) → CheckOwes S kinds r kinds′ → ListConfined S kinds r kinds′
 list-confined S kinds r kinds′ o = rw (o .answer, o .left) (go (verdict (lentKinds kinds) S (o .form-is)) (lent-says S (lentKinds kinds) (o .form-is) (o .grammar)))

@@ -26,9 +26,13 @@ abbrev mutual
   HaveKinds nil ks js = [] ≡ js
   HaveKinds (x ▸ xs) ks js = (j : Kind) × (is : List Kind) × HasKind x ks j × HaveKinds xs ks is × (j ∷ is ≡ js)
 
--- these lines from line i on, where the words ks are known, with these kind codes: a let gives a word that is neither an operator's nor known, a show's word is known
+-- Line i, where the words ks are known: after it the words js are known, and it has this kind code.
+-- A let gives a word that is neither an operator's nor known; a show's word is known.
+abbrev pub LineFits : ℕ → Known Kind → Line → Known Kind → ℕ → Type 0
+LineFits i ks (let-line w x) js n = (k : Kind) × HasKind x ks k × (opens table w ≡ false) × (knows w ks ≡ false) × (givenOn i w k ∷ ks ≡ js) × (kindCode k ≡ n)
+LineFits i ks (show-line w) js n = (k : Kind) × (lookup w ks ≡ some k) × (ks ≡ js) × (kindCode k ≡ n)
+
+-- these lines from line i on, with their kind codes
 abbrev pub LinesFit : ℕ → Known Kind → List Line → List ℕ → Type 0
 LinesFit i ks [] cs = [] ≡ cs
-LinesFit i ks (let-line w x ∷ ls) cs =
-    (k : Kind) × (ds : List ℕ) × HasKind x ks k × (opens table w ≡ false) × (knows w ks ≡ false) × LinesFit (suc i) (givenOn i w k ∷ ks) ls ds × (kindCode k ∷ ds ≡ cs)
-LinesFit i ks (show-line w ∷ ls) cs = (k : Kind) × (ds : List ℕ) × (lookup w ks ≡ some k) × LinesFit (suc i) ks ls ds × (kindCode k ∷ ds ≡ cs)
+LinesFit i ks (l ∷ ls) cs = (js : Known Kind) × (n : ℕ) × (ds : List ℕ) × LineFits i ks l js n × LinesFit (suc i) js ls ds × (n ∷ ds ≡ cs)
