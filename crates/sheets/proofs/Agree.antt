@@ -20,7 +20,7 @@ use Rattle.sheets.specs.Scopes.{Scope, opened, give}
 use Rattle.sheets.specs.Limits.{numValue, inLimit}
 use Rattle.sheets.specs.Refusals.{Fault, name, kind, Checked, fine, bad, thenᶜ, known?}
 use Rattle.sheets.specs.Machine.{Out, goes, stops, sticks, after, then, orSticks, test, meet, made, result, provided, applyRow, eval, evals, State, rescoped, step, readings}
-use Rattle.sheets.specs.Check.{kindOfExpr, kindsOfExprs, Stateᶜ, noted, stepᶜ, readingKinds}
+use Rattle.sheets.specs.Check.{kindOfExpr, kindsOfExprs, Stateᶜ, lineᶜ, noted, stepᶜ, readingKinds}
 use Rattle.sheets.specs.Claim.{All}
 use Rattle.sheets.proofs.rows.FindKind.{given, mapped, find-kind}
 use Rattle.sheets.proofs.rows.Kept.{Kept, kept}
@@ -129,19 +129,32 @@ mutual
 abbrev pub View : State → Stateᶜ → Type 0
 View s c = ScopeLike Sees (s .scope) (c .scope)
 
--- a scope that both come to
-agree-scope : (s : State) (n : ℕ) (c : Stateᶜ) (o : Checked (Scope Value)) (p : Checked (Scope Kind)) → Match (ScopeLike Sees) o p → Agree View (rescoped s o) (thenᶜ p (noted c n))
-agree-scope s n c o p r = agree-then (ScopeLike Sees) View (orSticks o) p _ _ (agree-sticks (ScopeLike Sees) o p r) (λ x y l. (record { scope = y; codes = _ }, refl, l))
+-- what a line leaves is alike
+abbrev Leaving : State → ℕ × Scope Kind → Type 0
+Leaving s p = ScopeLike Sees (s .scope) (p .1)
 
-pub agree-step : (i : ℕ) (s : State) (c : Stateᶜ) (x : Line) → View s c → Agree View (step i s x) (stepᶜ i c x)
-unfolding step stepᶜ
-agree-step i s c (let-line w x) l =
-    agree-then Sees View (eval x (s .ellipsoid) (s .scope .known)) (kindOfExpr x (c .scope .known)) _ _ (agree-eval x (s .ellipsoid) (s .scope .known) (c .scope .known) (l .known-like)) (λ y k r.
+-- a scope that both come to
+agree-scope : (s : State) (n : ℕ) (o : Checked (Scope Value)) (p : Checked (Scope Kind)) → Match (ScopeLike Sees) o p → Agree Leaving (rescoped s o) (thenᶜ p (λ d. fine (n, d)))
+agree-scope s n o p r = agree-then (ScopeLike Sees) Leaving (orSticks o) p _ _ (agree-sticks (ScopeLike Sees) o p r) (λ x y l. ((n, y), refl, l))
+
+agree-line : (i : ℕ) (s : State) (c : Scope Kind) (x : Line) → ScopeLike Sees (s .scope) c → Agree Leaving (step i s x) (lineᶜ i c x)
+unfolding step lineᶜ
+agree-line i s c (let-line w x) l =
+    agree-then Sees Leaving (eval x (s .ellipsoid) (s .scope .known)) (kindOfExpr x (c .known)) _ _ (agree-eval x (s .ellipsoid) (s .scope .known) (c .known) (l .known-like)) (λ y k r.
     let g : Given Value = givenOn i w y in
     let h : Given Kind = givenOn i w k in
-    agree-scope s (kindCode k) c (give g (s .scope)) (give h (c .scope)) (give-like Sees g h (s .scope) (c .scope) (refl, refl, r) l))
-agree-step i s c (show-line w) l =
-    agree-then Sees View (meet (lookup w (s .scope .known))) (known? name (lookup w (c .scope .known))) _ _ (agree-word w (s .scope .known) (c .scope .known) (l .known-like)) (λ y k r. (_, refl, l))
+    agree-scope s (kindCode k) (give g (s .scope)) (give h c) (give-like Sees g h (s .scope) c (refl, refl, r) l))
+agree-line i s c (show-line w) l =
+    agree-then Sees Leaving (meet (lookup w (s .scope .known))) (known? name (lookup w (c .known))) _ _ (agree-word w (s .scope .known) (c .known) (l .known-like)) (λ y k r. ((kindCode k, c), refl, l))
+
+pub agree-step : (i : ℕ) (s : State) (c : Stateᶜ) (x : Line) → View s c → Agree View (step i s x) (stepᶜ i c x)
+unfolding stepᶜ
+agree-step i s c x l = go (step i s x) (lineᶜ i (c .scope) x) (agree-line i s (c .scope) x l)
+  where
+    go : (o : Out State) (p : Checked (ℕ × Scope Kind)) → Agree Leaving o p → Agree View o (thenᶜ p (λ q. fine (noted c q)))
+    go (goes fs t) p (q, e, r) = (noted c q, ap (λ p. thenᶜ p (λ q. fine (noted c q))) e, r)
+    go (stops fs r) p h = tt
+    go (sticks fs) p (f, e) = (f, ap (λ p. thenᶜ p (λ q. fine (noted c q))) e)
 
 -- a reading is n
 readings-seen : (ws : List Word) (rs : List Float) → KnownLike Sees (readings ws rs) (map (λ w. givenOn 0 w number) ws)

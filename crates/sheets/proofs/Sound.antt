@@ -15,7 +15,7 @@ use Rattle.sheets.specs.Names.{Given, lookup, barred, givenOn}
 use Rattle.sheets.specs.Scopes.{Scope, giveIf}
 use Rattle.sheets.specs.Refusals.{Fault, name, Checked, fine, bad, thenᶜ, known?}
 use Rattle.sheets.specs.Machine.{Out, goes, stops, sticks, State, step, Ran, done, stopped, stuck, afterwards, onward, steps, start, machine}
-use Rattle.sheets.specs.Check.{kindOfExpr, Stateᶜ, noted, stepᶜ, Walked, passes, refuses, onwardᶜ, stepsᶜ, startᶜ, walk}
+use Rattle.sheets.specs.Check.{kindOfExpr, Stateᶜ, lineᶜ, noted, stepᶜ, Walked, passes, refuses, onwardᶜ, stepsᶜ, startᶜ, walk}
 use Rattle.sheets.specs.Claim.{All}
 use Rattle.sheets.proofs.Agree.{Agree, View, agree-step, start-seen}
 
@@ -52,36 +52,44 @@ abbrev Next : ℕ → Stateᶜ → Checked Stateᶜ → Type 0
 Next i s (fine t) = Tidy (suc i) t × ((n : ℕ) × (t .codes ≡ s .codes ++ (n ∷ [])))
 Next i s (bad f) = Unit {0}
 
-next-then : {A : Type 0} (i : ℕ) (s : Stateᶜ) (c : Checked A) (k : A → Checked Stateᶜ) → ((x : A) → Next i s (k x)) → Next i s (thenᶜ c k)
-next-then i s (fine x) k h = h x
-next-then i s (bad f) k h = tt
+-- its code and what it leaves are noted in a tidy way
+abbrev Noting : ℕ → Stateᶜ → Checked (ℕ × Scope Kind) → Type 0
+Noting i s (fine p) = Tidy (suc i) (noted s p)
+Noting i s (bad f) = Unit {0}
+
+noting-then : {A : Type 0} (i : ℕ) (s : Stateᶜ) (c : Checked A) (k : A → Checked (ℕ × Scope Kind)) → ((x : A) → Noting i s (k x)) → Noting i s (thenᶜ c k)
+noting-then i s (fine x) k h = h x
+noting-then i s (bad f) k h = tt
 
 -- a line that gives no name
-next-noted : (i : ℕ) (s : Stateᶜ) (n : ℕ) (c : Scope Kind) → Tidy i s → c .given ≡ s .scope .given → Next i s (noted s n c)
-next-noted i s n c h e = (
-  record {
-    here = simp length-last (omega (arith, h .here));
-    listed = subst (λ gs. All (OnLine (s .codes ++ (n ∷ []))) gs) (sym e) (all-later (s .codes) (n ∷ []) (s .scope .given) (h .listed));
-  },
-  (n, refl),
-)
+noting-none : (i : ℕ) (s : Stateᶜ) (n : ℕ) (c : Scope Kind) → Tidy i s → c .given ≡ s .scope .given → Tidy (suc i) (noted s (n, c))
+noting-none i s n c h e = record {
+  here = simp length-last (omega (arith, h .here));
+  listed = subst (λ gs. All (OnLine (s .codes ++ (n ∷ []))) gs) (sym e) (all-later (s .codes) (n ∷ []) (s .scope .given) (h .listed));
+}
 
-next-give : (b : Bool) (i : ℕ) (s : Stateᶜ) (w : Word) (k : Kind) → Tidy i s → Next i s (thenᶜ (giveIf b (givenOn i w k) (s .scope)) (noted s (kindCode k)))
-next-give true i s w k h = tt
-next-give false i s w k h =
-    let m = next-noted i s (kindCode k) (s .scope) h refl .0 in
-    let e : i ≡ length (s .codes) + 2 = h .here in (
-      record {
-        here = m .here;
-        listed = ((omega arith, simp length-last (omega arith), last-code (s .codes) (kindCode k) (i - 2) (omega arith)), m .listed);
-      },
-      (kindCode k, refl),
-    )
+noting-give : (b : Bool) (i : ℕ) (s : Stateᶜ) (w : Word) (k : Kind) → Tidy i s → Noting i s (thenᶜ (giveIf b (givenOn i w k) (s .scope)) (λ d. fine (kindCode k, d)))
+noting-give true i s w k h = tt
+noting-give false i s w k h =
+    let m = noting-none i s (kindCode k) (s .scope) h refl in
+    let e : i ≡ length (s .codes) + 2 = h .here in
+    record {
+      here = m .here;
+      listed = ((omega arith, simp length-last (omega arith), last-code (s .codes) (kindCode k) (i - 2) (omega arith)), m .listed);
+    }
+
+noting : (i : ℕ) (s : Stateᶜ) (x : Line) → Tidy i s → Noting i s (lineᶜ i (s .scope) x)
+unfolding lineᶜ
+noting i s (let-line w x) h = noting-then i s (kindOfExpr x (s .scope .known)) _ (λ k. noting-give (barred w (s .scope .known)) i s w k h)
+noting i s (show-line w) h = noting-then i s (known? name (lookup w (s .scope .known))) _ (λ k. noting-none i s (kindCode k) (s .scope) h refl)
 
 next-step : (i : ℕ) (s : Stateᶜ) (x : Line) → Tidy i s → Next i s (stepᶜ i s x)
 unfolding stepᶜ
-next-step i s (let-line w x) h = next-then i s (kindOfExpr x (s .scope .known)) _ (λ k. next-give (barred w (s .scope .known)) i s w k h)
-next-step i s (show-line w) h = next-then i s (known? name (lookup w (s .scope .known))) _ (λ k. next-noted i s (kindCode k) (s .scope) h refl)
+next-step i s x h = go (lineᶜ i (s .scope) x) (noting i s x h)
+  where
+    go : (o : Checked (ℕ × Scope Kind)) → Noting i s o → Next i s (thenᶜ o (λ p. fine (noted s p)))
+    go (fine p) t = (t, (p .0, refl))
+    go (bad f) t = tt
 
 -- ---- what the walk, at line i in the state s, can still come to
 

@@ -25,12 +25,16 @@ pub record Stateᶜ : Type 0 where
   pub scope : Scope Kind
   pub codes : List ℕ
 
-abbrev pub noted : Stateᶜ → ℕ → Scope Kind → Checked Stateᶜ
-noted s n c = fine (record { scope = c; codes = s .codes ++ (n ∷ []) })
+-- line i, to which the lines before it left c: its kind code, and what it leaves
+unfoldable pub lineᶜ : ℕ → Scope Kind → Line → Checked (ℕ × Scope Kind)
+lineᶜ i c (let-line w x) = thenᶜ (kindOfExpr x (c .known)) (λ k. thenᶜ (give (givenOn i w k) c) (λ d. fine (kindCode k, d)))
+lineᶜ i c (show-line w) = thenᶜ (known? name (lookup w (c .known))) (λ k. fine (kindCode k, c))
+
+abbrev pub noted : Stateᶜ → ℕ × Scope Kind → Stateᶜ
+noted s p = record { scope = p .1; codes = s .codes ++ (p .0 ∷ []) }
 
 unfoldable pub stepᶜ : ℕ → Stateᶜ → Line → Checked Stateᶜ
-stepᶜ i s (let-line w x) = thenᶜ (kindOfExpr x (s .scope .known)) (λ k. thenᶜ (give (givenOn i w k) (s .scope)) (noted s (kindCode k)))
-stepᶜ i s (show-line w) = thenᶜ (known? name (lookup w (s .scope .known))) (λ k. noted s (kindCode k) (s .scope))
+stepᶜ i s l = thenᶜ (lineᶜ i (s .scope) l) (λ p. fine (noted s p))
 
 -- the codes of the lines from line 2, or the fault and its line
 pub data Walked : Type 0 where

@@ -4,7 +4,6 @@ use native.Mathlib.Omega.{arith}
 use mathlib.Core.Path.{_≡_, refl, sym, ap, _∙_, subst}
 use mathlib.Core.Bool.{Bool, true, false}
 use mathlib.Core.List.{List, [], _∷_, _++_}
-use mathlib.Core.Option.{Option, none, some}
 use lib.ListN.{length, take, set, replicate}
 use lib.Seq.{take-suc-set, length-take-le}
 use Rattle.frames.specs.declared.ellipsoid.Ellipsoid.{Ellipsoid}
@@ -14,11 +13,11 @@ use Rattle.sheets.specs.code.reader.Codes.{codeOf}
 use Rattle.sheets.specs.code.reader.Reader.{Got, none as noGot, got, readLine, readHead, Form, formed, badLine, _thenᶠ_, linesStep, readLines, sheetStep, readSheet}
 use Rattle.sheets.specs.code.reader.Views.{linesForm}
 use Rattle.sheets.specs.code.check.FirstLines.{firstIn, firstOf}
-use Rattle.sheets.specs.Kinds.{Kind, kindCode}
-use Rattle.sheets.specs.Names.{lookup, barred, givenOn}
-use Rattle.sheets.specs.Scopes.{Scope, withName, giveIf}
-use Rattle.sheets.specs.Refusals.{Fault, name, fault, refusalNumber, Checked, fine, bad, thenᶜ, known?}
-use Rattle.sheets.specs.Check.{kindOfExpr, Stateᶜ, noted, stepᶜ, Walked, passes, refuses, onwardᶜ, stepsᶜ, startᶜ, walk}
+use Rattle.sheets.specs.Kinds.{Kind}
+use Rattle.sheets.specs.Scopes.{Scope}
+use Rattle.sheets.specs.Refusals.{Fault, fault, refusalNumber, Checked, fine, bad, thenᶜ}
+use Rattle.sheets.specs.Check.{Stateᶜ, lineᶜ, noted, stepᶜ, Walked, passes, refuses, onwardᶜ, stepsᶜ, startᶜ, walk}
+use Rattle.sheets.specs.Admitted.{LineFits}
 use Rattle.sheets.specs.Answers.{ranged, ofWalked, ofForm}
 use Rattle.sheets.specs.Machine.{surface}
 use Rattle.sheets.specs.declared.reader.form.FormRead.{FormRead}
@@ -26,45 +25,28 @@ use Rattle.sheets.specs.declared.check.first_line.FirstLine.{FirstLine}
 use Rattle.sheets.proofs.reader.Spans.{holds-at}
 use Rattle.sheets.proofs.reader.LineLaws.{LineStands, line-sound}
 use Rattle.sheets.proofs.reader.Walks.{lines-end, lines-over, lines-step, Step, walk-line}
-use Rattle.sheets.specs.code.check.Walking.{kindFrom, Stands, lineWord, unbarred, lineKind, lineSaid, LineHas, Walks, LinesWalk, unlessBad, Admits}
+use Rattle.sheets.specs.code.check.Walking.{kindFrom, Stands, lineWord, lineSaid, LineHas, Walks, LinesWalk, unlessBad, Admits}
 use Rattle.sheets.specs.declared.check.admit.LineKind.{LineKind}
 use Rattle.sheets.specs.declared.check.admit.Outcome.{Outcome}
 use Rattle.sheets.specs.declared.check.admit.Admission.{Admission}
 use Rattle.sheets.proofs.check.NewestLaws.{newest-none}
+use Rattle.sheets.proofs.check.LinesExact.{Leaves, leaves}
 use Rattle.sheets.proofs.check.PassedLaws.{reading-is, stands-given, stands-shown}
 
--- ---- the state after a line whose word has the kind k
+-- ---- a line of the walk: p is its code and what it leaves
 
-abbrev scopeAfter : ℕ → Line → Kind → Scope Kind → Scope Kind
-scopeAfter i (let-line w x) k c = withName (givenOn i w k) c
-scopeAfter i (show-line w) k c = c
+steps-fine : (l : Line) (ls : List Line) (i : ℕ) (s : Stateᶜ) (p : ℕ × Scope Kind) → lineᶜ i (s .scope) l ≡ fine p → stepsᶜ (numbered i (l ∷ ls)) s ≡ stepsᶜ (numbered (suc i) ls) (noted s p)
+unfolding stepsᶜ stepᶜ
+steps-fine l ls i s p e = ap (λ o. onwardᶜ (thenᶜ o (λ p. fine (noted s p))) i (λ t. stepsᶜ (numbered (suc i) ls) t)) e
 
-abbrev stepped : ℕ → Stateᶜ → Line → Kind → Stateᶜ
-stepped i s l k = record { scope = scopeAfter i l k (s .scope); codes = s .codes ++ (kindCode k ∷ []) }
+steps-bad : (l : Line) (ls : List Line) (i : ℕ) (s : Stateᶜ) (f : Fault) → lineᶜ i (s .scope) l ≡ bad f → stepsᶜ (numbered i (l ∷ ls)) s ≡ refuses f i
+unfolding stepsᶜ stepᶜ
+steps-bad l ls i s f e = ap (λ o. onwardᶜ (thenᶜ o (λ p. fine (noted s p))) i (λ t. stepsᶜ (numbered (suc i) ls) t)) e
 
-step-is : (i : ℕ) (s : Stateᶜ) (l : Line) → stepᶜ i s l ≡ thenᶜ (lineKind l (s .scope .known)) (λ k. fine (stepped i s l k))
-unfolding stepᶜ lineKind
-step-is i s (let-line w x) = go (kindOfExpr x (s .scope .known)) (barred w (s .scope .known))
-  where
-    go : (o : Checked Kind) (b : Bool) → thenᶜ o (λ k. thenᶜ (giveIf b (givenOn i w k) (s .scope)) (noted s (kindCode k))) ≡ thenᶜ (thenᶜ o (λ k. unbarred b k)) (λ k. fine (stepped i s (let-line w x) k))
-    go (fine k) true = refl
-    go (fine k) false = refl
-    go (bad f) b = refl
-step-is i s (show-line w) = refl
-
-steps-fine : (l : Line) (ls : List Line) (i : ℕ) (s : Stateᶜ) (k : Kind) → lineKind l (s .scope .known) ≡ fine k → stepsᶜ (numbered i (l ∷ ls)) s ≡ stepsᶜ (numbered (suc i) ls) (stepped i s l k)
-unfolding stepsᶜ
-steps-fine l ls i s k e = ap (λ o. onwardᶜ o i (λ t. stepsᶜ (numbered (suc i) ls) t)) (step-is i s l ∙ ap (λ o. thenᶜ o (λ k. fine (stepped i s l k))) e)
-
-steps-bad : (l : Line) (ls : List Line) (i : ℕ) (s : Stateᶜ) (f : Fault) → lineKind l (s .scope .known) ≡ bad f → stepsᶜ (numbered i (l ∷ ls)) s ≡ refuses f i
-unfolding stepsᶜ
-steps-bad l ls i s f e = ap (λ o. onwardᶜ o i (λ t. stepsᶜ (numbered (suc i) ls) t)) (step-is i s l ∙ ap (λ o. thenᶜ o (λ k. fine (stepped i s l k))) e)
-
-laid-after : (codes : List ℕ) (n : ℕ) → n < length codes → (i : ℕ) (s : Stateᶜ) (l : Line) (k : Kind) → take n codes ≡ 255 ∷ s .codes
-    → take (n + 1) (set codes n (kindCode k)) ≡ 255 ∷ stepped i s l k .codes
-laid-after codes n h i s l k e =
+laid-after : (codes : List ℕ) (n : ℕ) → n < length codes → (s : Stateᶜ) (k : ℕ) → take n codes ≡ 255 ∷ s .codes → take (n + 1) (set codes n k) ≡ 255 ∷ (s .codes ++ (k ∷ []))
+laid-after codes n h s k e =
     let en : n + 1 ≡ suc n = omega arith in
-    ap (λ j. take j (set codes n (kindCode k))) en ∙ take-suc-set codes n (kindCode k) h ∙ ap (λ z. z ++ (kindCode k ∷ [])) e
+    ap (λ j. take j (set codes n k)) en ∙ take-suc-set codes n k h ∙ ap (λ z. z ++ (k ∷ [])) e
 
 -- ---- readings put together
 
@@ -126,7 +108,7 @@ module _ (s : List ℕ) (start at passed : ℕ) (words codes newest : List ℕ) 
         walk-bad (passed + 2) (lines-over s at (passed + 2) (m .phase) (95 - passed) (omega arith) h) e a (ea ∙ ap (λ j. Outcome.Refuses 3 j) (sym i))
 
     -- r is what the line came to
-    module _ (r : LineKind) (hr : LineHas (readLine s at) (m .state .scope .known) r) (le : passed < 95) where
+    module _ (r : LineKind) (hr : LineHas (readLine s at) (passed + 2) (m .state .scope) r) (le : passed < 95) where
       pub walk-fault : (number : ℕ) → r ≡ LineKind.Refused number → (e : Ellipsoid) (a : Admission)
           → a .outcome ≡ unlessBad (linesForm (passed + 2) (readLines (97 - (passed + 2)) (passed + 2) (m .phase) s at)) number (passed + 2) → Answers e a
       unfolding Walks lineSaid linesForm unlessBad
@@ -138,28 +120,23 @@ module _ (s : List ℕ) (start at passed : ℕ) (words codes newest : List ℕ) 
           go (badLine j) ef ea = walk-bad j ef e a ea
           go (formed ls) ef ea =
               walk-formed ls ef e a (subst (λ ls. Walks (stepsᶜ (numbered (passed + 2) ls) (m .state)) e start a) (sym (now .all))
-              (refuse (lineKind (now .line) (m .state .scope .known)) refl (hr .is (now .line) (now .next) (now .stands))))
+              (refuse (lineᶜ (passed + 2) (m .state .scope) (now .line)) refl (hr .is (now .line) (now .next) (now .stands))))
             where
               now : Step s (95 - passed) (passed + 2) (m .phase) at ls ef
               now = walk-line s (95 - passed) (passed + 2) (m .phase) at ls ef h
 
-              refuse : (q : Checked Kind) → lineKind (now .line) (m .state .scope .known) ≡ q → r ≡ lineSaid (lineWord (now .line)) q (now .next)
+              refuse : (q : Checked (ℕ × Scope Kind)) → lineᶜ (passed + 2) (m .state .scope) (now .line) ≡ q → r ≡ lineSaid (lineWord (now .line)) q (now .next)
                   → Walks (stepsᶜ (numbered (passed + 2) (now .line ∷ now .rest)) (m .state)) e start a
-              refuse (fine k) eq i = let z : _≡_ {A = ℕ} 0 1 = cc in absurd (omega arith)
+              refuse (fine p) eq i = let z : _≡_ {A = ℕ} 0 1 = cc in absurd (omega arith)
               refuse (bad f) eq i =
                   let j : number ≡ refusalNumber (fault f) = cc in
                   subst (λ q. Walks q e start a) (sym (steps-bad (now .line) (now .rest) (passed + 2) (m .state) f eq)) (ea ∙ ap (λ k. Outcome.Refuses k (passed + 2)) j)
 
       module _ (lw : length words ≡ 96) (lc : length codes ≡ 96) (code kind next : ℕ) (er : r ≡ LineKind.Is code kind next) where
-        stands-after : (l : Line) → IsLine l → (k : Kind) → lineKind l (m .state .scope .known) ≡ fine k
-            → Stands (set words (passed + 1) (codeOf (lineWord l))) (set codes (passed + 1) (kindCode k)) (set newest (codeOf (lineWord l) % 512) (passed + 1)) (passed + 1) (stepped (passed + 2) (m .state) l k .scope .known)
-        unfolding lineKind
-        stands-after (let-line w x) hl k e = stands-given words codes newest passed (m .state .scope .known) (m .stands) lw lc le w (hl .0 .1 .0) k (passed + 2)
-        stands-after (show-line w) hl k e = stands-shown words codes newest passed (m .state .scope .known) (m .stands) lw lc le w (hl .0 .1 .0) k (go (lookup w (m .state .scope .known)) e)
-          where
-            go : (q : Option Kind) → known? name q ≡ fine k → q ≡ some k
-            go none e = let z : _≡_ {A = ℕ} 0 1 = cc in absurd (omega arith)
-            go (some j) e = let i : j ≡ k = cc in ap (λ j. some j) i
+        stands-after : (l : Line) → IsLine l → (p : ℕ × Scope Kind) → LineFits (passed + 2) (m .state .scope .known) l (p .1 .known) (p .0)
+            → Stands (set words (passed + 1) (codeOf (lineWord l))) (set codes (passed + 1) (p .0)) (set newest (codeOf (lineWord l) % 512) (passed + 1)) (passed + 1) (p .1 .known)
+        stands-after (let-line w x) hl p (k, has, free, new, e, en) = rw (← e, ← en) (stands-given words codes newest passed (m .state .scope .known) (m .stands) lw lc le w (hl .0 .1 .0) k (passed + 2))
+        stands-after (show-line w) hl p (k, has, e, en) = rw (← e, ← en) (stands-shown words codes newest passed (m .state .scope .known) (m .stands) lw lc le w (hl .0 .1 .0) k has)
 
         whole-after : (l : Line) → readLine s at ≡ got l next
             → readLines 95 2 0 s start ≡ (readLines (95 - (passed + 1)) (passed + 1 + 2) (after (m .phase) l) s next thenᶠ (λ ls. formed (m .before (l ∷ ls))))
@@ -176,30 +153,31 @@ module _ (s : List ℕ) (start at passed : ℕ) (words codes newest : List ℕ) 
             ∙ ap (λ i. readLines (95 - (passed + 1)) i p s next thenᶠ (λ ls. formed (l ∷ ls))) ei)
             ∙ twice there (λ ls. l ∷ ls) (m .before)
 
-        walked-after : (l : Line) (k : Kind) → lineKind l (m .state .scope .known) ≡ fine k → (ls : List Line)
-            → stepsᶜ (numbered 2 (m .before (l ∷ ls))) startᶜ ≡ stepsᶜ (numbered (passed + 1 + 2) ls) (stepped (passed + 2) (m .state) l k)
-        walked-after l k e ls =
+        walked-after : (l : Line) (p : ℕ × Scope Kind) → lineᶜ (passed + 2) (m .state .scope) l ≡ fine p → (ls : List Line)
+            → stepsᶜ (numbered 2 (m .before (l ∷ ls))) startᶜ ≡ stepsᶜ (numbered (passed + 1 + 2) ls) (noted (m .state) p)
+        walked-after l p e ls =
             let ei : suc (passed + 2) ≡ passed + 1 + 2 = omega arith in
-            m .walked (l ∷ ls) ∙ steps-fine l ls (passed + 2) (m .state) k e ∙ ap (λ i. stepsᶜ (numbered i ls) (stepped (passed + 2) (m .state) l k)) ei
+            m .walked (l ∷ ls) ∙ steps-fine l ls (passed + 2) (m .state) p e ∙ ap (λ i. stepsᶜ (numbered i ls) (noted (m .state) p)) ei
 
         pub walk-on : (later : List ℕ) → later ≡ set newest (code % 512) (passed + 1) → Midway s start next (passed + 1) (set words (passed + 1) code) (set codes (passed + 1) kind) later
         unfolding lineSaid
-        walk-on later et = let (l, el) = hr .read code kind next er in go l el (lineKind l (m .state .scope .known)) refl (hr .is l next el)
+        walk-on later et = let (l, el) = hr .read code kind next er in go l el (lineᶜ (passed + 2) (m .state .scope) l) refl (hr .is l next el)
           where
-            go : (l : Line) → readLine s at ≡ got l next → (q : Checked Kind) → lineKind l (m .state .scope .known) ≡ q → r ≡ lineSaid (lineWord l) q next
+            go : (l : Line) → readLine s at ≡ got l next → (q : Checked (ℕ × Scope Kind)) → lineᶜ (passed + 2) (m .state .scope) l ≡ q → r ≡ lineSaid (lineWord l) q next
                 → Midway s start next (passed + 1) (set words (passed + 1) code) (set codes (passed + 1) kind) later
-            go l el (fine k) eq e =
+            go l el (fine p) eq e =
                 let ec : codeOf (lineWord l) ≡ code = cc in
-                let ek : kindCode k ≡ kind = cc in
+                let ek : p .0 ≡ kind = cc in
                 let line : IsLine l = holds-at (LineStands s at) (readLine s at) l next (line-sound s at) el .1 in
+                let fits = subst (Leaves (passed + 2) (m .state .scope) l) eq (leaves (passed + 2) (m .state .scope) l) in
                 record {
                   before = λ ls. m .before (l ∷ ls);
                   phase = after (m .phase) l;
-                  state = stepped (passed + 2) (m .state) l k;
+                  state = noted (m .state) p;
                   whole = whole-after l el;
-                  walked = walked-after l k eq;
-                  stands = rw (et, ← ec, ← ek) (stands-after l line k eq);
-                  laid = rw (← ek) (laid-after codes (passed + 1) (omega arith) (passed + 2) (m .state) l k (m .laid));
+                  walked = walked-after l p eq;
+                  stands = rw (et, ← ec, ← ek) (stands-after l line p fits);
+                  laid = rw (← ek) (laid-after codes (passed + 1) (omega arith) (m .state) (p .0) (m .laid));
                 }
             go l el (bad f) eq e = let z : _≡_ {A = ℕ} 0 1 = cc in absurd (omega arith)
 

@@ -16,15 +16,16 @@ use Rattle.sheets.specs.code.reader.Views.{closed}
 use Rattle.sheets.specs.Kinds.{Kind, kindCode}
 use Rattle.sheets.specs.Table.{table, when}
 use Rattle.sheets.specs.Lookup.{sameWord, opens}
-use Rattle.sheets.specs.Names.{Known, orElse as orLater, lookup, knows, barred}
+use Rattle.sheets.specs.Names.{Known, orElse as orLater, lookup, knows, barred, givenOn}
+use Rattle.sheets.specs.Scopes.{Scope, giveIf}
 use Rattle.sheets.specs.code.rows.KindCodes.{rowCodes}
 use Rattle.sheets.specs.Refusals.{fault, refusalNumber, Checked, fine, bad, thenᶜ}
-use Rattle.sheets.specs.Check.{kindOfExpr}
+use Rattle.sheets.specs.Check.{kindOfExpr, lineᶜ}
 use Rattle.sheets.specs.declared.reader.expr.Read.{Read}
 use Rattle.sheets.proofs.reader.ReaderLaws.{then-got}
 use Rattle.sheets.proofs.reader.Inverse.{then-read}
 use Rattle.sheets.proofs.reader.PieceSteps.{closing-none, closing-got}
-use Rattle.sheets.specs.code.check.Walking.{kindFound, Standing, kindSaid, ExprHas, lineWord, unbarred, lineKind, lineSaid, LineHas, WordHas, shortKind, BarredWord}
+use Rattle.sheets.specs.code.check.Walking.{kindFound, Standing, kindSaid, ExprHas, lineWord, lineSaid, LineHas, WordHas, shortKind, BarredWord}
 use Rattle.sheets.specs.declared.check.kind_walk.KindRead.{KindRead}
 use Rattle.sheets.specs.declared.check.admit.LineKind.{LineKind}
 use Rattle.sheets.proofs.rows.KindRowLaws.{opens-is}
@@ -72,8 +73,8 @@ module _ (ps : Known Kind) (code : ℕ) (t : Bool) (ht : t ≡ hasKey (rowCodes 
 not-line : {C : Type 0} (number c k n : ℕ) → LineKind.Refused number ≡ LineKind.Is c k n → C
 not-line number c k n e = let z : _≡_ {A = ℕ} 0 1 = cc in absurd (omega arith)
 
-pub line-nothing : (o : Got Line) → o ≡ nothing → (ps : Known Kind) (number : ℕ) → LineHas o ps (LineKind.Refused number)
-line-nothing o h ps number = record { is = λ l n e. let z : _≡_ {A = ℕ} 0 1 = cc in absurd (omega arith); read = λ c k n e. not-line number c k n e }
+pub line-nothing : (o : Got Line) → o ≡ nothing → (i : ℕ) (c : Scope Kind) (number : ℕ) → LineHas o i c (LineKind.Refused number)
+line-nothing o h i c number = record { is = λ l n e. let z : _≡_ {A = ℕ} 0 1 = cc in absurd (omega arith); read = λ w k n e. not-line number w k n e }
 
 line-same : (j k f g m n : ℕ) → j ≡ k → f ≡ g → m ≡ n → LineKind.Is j f m ≡ LineKind.Is k g n
 line-same j k f g m n d e h = rw (d, e, h) refl
@@ -91,52 +92,56 @@ closes x y s m n e = go (closed s m) refl
 
 -- ---- a line that names a word: f is the kind code found for it
 
-module _ (words codes newest : List ℕ) (ps : Known Kind) (st : Standing words codes newest ps) (code next f : ℕ) (hf : f ≡ kindFound words codes newest code) where
-  pub known-not : f ≡ 255 → WordHas code (λ w. got (show-line w) next) ps (LineKind.Refused 5)
-  unfolding lineKind lineSaid
-  known-not i = record {
+module _ (words codes newest : List ℕ) (i : ℕ) (c : Scope Kind) (st : Standing words codes newest (c .known)) (code next f : ℕ) (hf : f ≡ kindFound words codes newest code) where
+  pub known-not : f ≡ 255 → WordHas code (λ w. got (show-line w) next) i c (LineKind.Refused 5)
+  unfolding lineᶜ lineSaid
+  known-not h = record {
     is = λ w hw ec. record {
       is = λ l m e.
           let el : l ≡ show-line w = cc in
-          rw (el, none-found (lookup w ps) f (found-kind words codes newest ps st code f hf w hw (sym ec)) i) refl;
-      read = λ c k n e. not-line 5 c k n e;
+          rw (el, none-found (lookup w (c .known)) f (found-kind words codes newest (c .known) st code f hf w hw (sym ec)) h) refl;
+      read = λ v k n e. not-line 5 v k n e;
     };
   }
 
-  pub known-is : (f ≡ 255 → ⊥) → WordHas code (λ w. got (show-line w) next) ps (LineKind.Is code f next)
-  unfolding lineKind lineSaid
-  known-is i = record {
+  pub known-is : (f ≡ 255 → ⊥) → WordHas code (λ w. got (show-line w) next) i c (LineKind.Is code f next)
+  unfolding lineᶜ lineSaid
+  known-is h = record {
     is = λ w hw ec. record {
       is = λ l m e.
-          let (k, eo, ek) = some-found (lookup w ps) f (found-kind words codes newest ps st code f hf w hw (sym ec)) i in
+          let (k, eo, ek) = some-found (lookup w (c .known)) f (found-kind words codes newest (c .known) st code f hf w hw (sym ec)) h in
           let el : l ≡ show-line w = cc in
           let en : next ≡ m = cc in
           rw (el, eo) (line-same _ _ _ _ _ _ (sym ec) ek en);
-      read = λ c k m e. let en : next ≡ m = cc in (show-line w, ap (got (show-line w)) en);
+      read = λ v k m e. let en : next ≡ m = cc in (show-line w, ap (got (show-line w)) en);
     };
   }
 
 -- ---- a let from its expression on: q is what the expression came to, t whether the word cannot be given, c what the code read of `)` and LF
 
-module _ (s : List ℕ) (at code : ℕ) (ps : Known Kind) (q : KindRead) (hq : ExprHas s at 11 ps q) where
+module _ (s : List ℕ) (at code i : ℕ) (d : Scope Kind) (q : KindRead) (hq : ExprHas s at 11 (d .known) q) where
   abbrev pub LetHas : LineKind → Type 0
-  LetHas p = WordHas code (λ w. rest s (let-word w) at) ps p
+  LetHas p = WordHas code (λ w. rest s (let-word w) at) i d p
+
+  -- the word w given a kind, unless it cannot be given
+  abbrev given : Word → Bool → Kind → Checked (ℕ × Scope Kind)
+  given w b k = thenᶜ (giveIf b (givenOn i w k) d) (λ c. fine (kindCode k, c))
 
   -- where p is no refusal, a let was read
   abbrev LetRead : LineKind → Type 0
   LetRead p = (w : Word) (c k m : ℕ) → p ≡ LineKind.Is c k m → (l : Line) × (rest s (let-word w) at ≡ got l m)
 
   let-is : (p : LineKind)
-      → ((w : Word) → IsWord w → codeOf w ≡ code → (o : Checked Kind) (i m : ℕ) → q ≡ kindSaid o i → closed s i ≡ Read.At m → p ≡ lineSaid w (thenᶜ o (λ k. unbarred (barred w ps) k)) m)
+      → ((w : Word) → IsWord w → codeOf w ≡ code → (o : Checked Kind) (j m : ℕ) → q ≡ kindSaid o j → closed s j ≡ Read.At m → p ≡ lineSaid w (thenᶜ o (given w (barred w (d .known)))) m)
       → LetRead p
       → LetHas p
-  unfolding rest lineKind
+  unfolding rest lineᶜ
   let-is p f g = record {
     is = λ w hw ec. record {
       is = λ l m e.
-          let (x, i, ex, ez) = then-read (readExpr 11 s at) (λ x m. closing (let-line w x) s m) l m e in
-          let (el, et) = closes (let-line w x) l s i m ez in
-          rw el (f w hw ec (kindOfExpr x ps) i m (hq .is x i ex) et);
+          let (x, j, ex, ez) = then-read (readExpr 11 s at) (λ x m. closing (let-line w x) s m) l m e in
+          let (el, et) = closes (let-line w x) l s j m ez in
+          rw el (f w hw ec (kindOfExpr x (d .known)) j m (hq .is x j ex) et);
       read = g w;
     };
   }
@@ -145,37 +150,37 @@ module _ (s : List ℕ) (at code : ℕ) (ps : Known Kind) (q : KindRead) (hq : E
   unfolding kindSaid lineSaid
   let-refused number h = let-is _ go (λ w c k n e. not-line number c k n e)
     where
-      go : (w : Word) → IsWord w → codeOf w ≡ code → (o : Checked Kind) (i m : ℕ) → q ≡ kindSaid o i → closed s i ≡ Read.At m
-          → LineKind.Refused number ≡ lineSaid w (thenᶜ o (λ k. unbarred (barred w ps) k)) m
-      go w hw ec (fine k) i m p et = let z : _≡_ {A = ℕ} 0 1 = cc in absurd (omega arith)
-      go w hw ec (bad f) i m p et = let j : number ≡ refusalNumber (fault f) = cc in ap (λ k. LineKind.Refused k) j
+      go : (w : Word) → IsWord w → codeOf w ≡ code → (o : Checked Kind) (j m : ℕ) → q ≡ kindSaid o j → closed s j ≡ Read.At m
+          → LineKind.Refused number ≡ lineSaid w (thenᶜ o (given w (barred w (d .known)))) m
+      go w hw ec (fine k) j m p et = let z : _≡_ {A = ℕ} 0 1 = cc in absurd (omega arith)
+      go w hw ec (bad f) j m p et = let n : number ≡ refusalNumber (fault f) = cc in ap (λ k. LineKind.Refused k) n
 
-  module _ (f end : ℕ) (h : q ≡ KindRead.Is f end) (t : Bool) (ht : BarredWord code ps t) where
+  module _ (f end : ℕ) (h : q ≡ KindRead.Is f end) (t : Bool) (ht : BarredWord code (d .known) t) where
     let-fine : (p : LineKind)
-        → ((w : Word) (k : Kind) (m : ℕ) → codeOf w ≡ code → f ≡ kindCode k → closed s end ≡ Read.At m → p ≡ lineSaid w (unbarred t k) m)
+        → ((w : Word) (k : Kind) (m : ℕ) → codeOf w ≡ code → f ≡ kindCode k → closed s end ≡ Read.At m → p ≡ lineSaid w (given w t k) m)
         → LetRead p
         → LetHas p
     unfolding kindSaid
     let-fine p g u = let-is p go u
       where
-        go : (w : Word) → IsWord w → codeOf w ≡ code → (o : Checked Kind) (i m : ℕ) → q ≡ kindSaid o i → closed s i ≡ Read.At m → p ≡ lineSaid w (thenᶜ o (λ k. unbarred (barred w ps) k)) m
-        go w hw ec (fine k) i m e et =
+        go : (w : Word) → IsWord w → codeOf w ≡ code → (o : Checked Kind) (j m : ℕ) → q ≡ kindSaid o j → closed s j ≡ Read.At m → p ≡ lineSaid w (thenᶜ o (given w (barred w (d .known)))) m
+        go w hw ec (fine k) j m e et =
             let ek : f ≡ kindCode k = cc in
-            let ei : end ≡ i = cc in
-            g w k m ec ek (ap (closed s) ei ∙ et) ∙ ap (λ b. lineSaid w (unbarred b k) m) (ht .is w hw ec)
-        go w hw ec (bad x) i m e et = let z : _≡_ {A = ℕ} 0 1 = cc in absurd (omega arith)
+            let ej : end ≡ j = cc in
+            g w k m ec ek (ap (closed s) ej ∙ et) ∙ ap (λ b. lineSaid w (given w b k) m) (ht .is w hw ec)
+        go w hw ec (bad x) j m e et = let z : _≡_ {A = ℕ} 0 1 = cc in absurd (omega arith)
 
     pub let-barred : t ≡ true → LetHas (LineKind.Refused 5)
     unfolding lineSaid
-    let-barred i = let-fine _ (λ w k m ec ek et. rw i refl) (λ w c k n e. not-line 5 c k n e)
+    let-barred h = let-fine _ (λ w k m ec ek et. rw h refl) (λ w c k n e. not-line 5 c k n e)
 
-    module _ (i : t ≡ false) (c : Read) (ez : c ≡ closed s end) where
+    module _ (et : t ≡ false) (c : Read) (ez : c ≡ closed s end) where
       pub let-no-end : (number : ℕ) → c ≡ Read.Bad → LetHas (LineKind.Refused number)
-      let-no-end number j = let-fine _ (λ w k m ec ek et. let z : _≡_ {A = ℕ} 0 1 = cc in absurd (omega arith)) (λ w c k n e. not-line number c k n e)
+      let-no-end number j = let-fine _ (λ w k m ec ek el. let z : _≡_ {A = ℕ} 0 1 = cc in absurd (omega arith)) (λ w c k n e. not-line number c k n e)
 
       pub let-given : (next : ℕ) → c ≡ Read.At next → LetHas (LineKind.Is code f next)
       unfolding rest lineSaid
-      let-given next j = let-fine _ (λ w k m ec ek et. let en : next ≡ m = cc in rw i (line-same _ _ _ _ _ _ (sym ec) ek en)) (λ w y k m e.
+      let-given next j = let-fine _ (λ w k m ec ek el. let en : next ≡ m = cc in rw et (line-same _ _ _ _ _ _ (sym ec) ek en)) (λ w y k m e.
           let (x, ex) = hq .read f end h in
           let en : next ≡ m = cc in
           (let-line w x, then-got (readExpr 11 s at) (λ x m. closing (let-line w x) s m) x end ex ∙ closing-got (let-line w x) s end c ez next j ∙ ap (got (let-line w x)) en))
@@ -197,12 +202,12 @@ module _ (at : ℕ) (r : LineKind) where
     unfolding shortKind
     short-not h = rw (e, ← eb, h) refl
 
-short-line : (at : ℕ) (o : Got Line) (ps : Known Kind) (r : LineKind) → LineHas o ps r → LineHas (limit at o) ps (shortKind at r)
+short-line : (at : ℕ) (o : Got Line) (i : ℕ) (d : Scope Kind) (r : LineKind) → LineHas o i d r → LineHas (limit at o) i d (shortKind at r)
 unfolding limit orElse shortKind lineSaid
-short-line at o ps r h = record {
+short-line at o i d r h = record {
   is = λ l n e.
       let (eo, short) = limit-read o l n e in
-      ap (shortKind at) (h .is l n eo) ∙ said-short (lineWord l) (lineKind l ps) n short;
+      ap (shortKind at) (h .is l n eo) ∙ said-short (lineWord l) (lineᶜ i d l) n short;
   read = λ c k n e.
       let (er, short) = short-read r c k n e in
       let (l, eo) = h .read c k n er in
@@ -217,8 +222,8 @@ short-line at o ps r h = record {
         go true h e = let i : n ≡ k = cc in (e, ap (λ m. leb m (at + 200)) i ∙ h)
         go false h e = let z : _≡_ {A = ℕ} 0 1 = cc in absurd (omega arith)
 
-    said-short : (w : Word) (q : Checked Kind) (n : ℕ) → leb n (at + 200) ≡ true → shortKind at (lineSaid w q n) ≡ lineSaid w q n
-    said-short w (fine k) n e = rw e refl
+    said-short : (w : Word) (q : Checked (ℕ × Scope Kind)) (n : ℕ) → leb n (at + 200) ≡ true → shortKind at (lineSaid w q n) ≡ lineSaid w q n
+    said-short w (fine p) n e = rw e refl
     said-short w (bad f) n e = refl
 
     short-read : (r : LineKind) (c k n : ℕ) → shortKind at r ≡ LineKind.Is c k n → (r ≡ LineKind.Is c k n) × (leb n (at + 200) ≡ true)
@@ -231,6 +236,6 @@ short-line at o ps r h = record {
 
 -- ---- a line, whose word has this code: what is left of it comes to r
 
-pub line-word : (s : List ℕ) (at : ℕ) (ps : Known Kind) (code : ℕ) (o : Word → Got Line) → (w : Word) × IsWord w × (codeOf w ≡ code) × (readLine s at ≡ limit at (o w))
-    → (r : LineKind) → WordHas code o ps r → (q : LineKind) → q ≡ shortKind at r → LineHas (readLine s at) ps q
-line-word s at ps code o (w, hw, ec, el) r hr q eq = rw (el, eq) (short-line at (o w) ps r (hr .is w hw ec))
+pub line-word : (s : List ℕ) (at i : ℕ) (d : Scope Kind) (code : ℕ) (o : Word → Got Line) → (w : Word) × IsWord w × (codeOf w ≡ code) × (readLine s at ≡ limit at (o w))
+    → (r : LineKind) → WordHas code o i d r → (q : LineKind) → q ≡ shortKind at r → LineHas (readLine s at) i d q
+line-word s at i d code o (w, hw, ec, el) r hr q eq = rw (el, eq) (short-line at (o w) i d r (hr .is w hw ec))

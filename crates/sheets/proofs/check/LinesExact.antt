@@ -9,55 +9,51 @@ use Rattle.sheets.specs.Kinds.{Kind, kindCode}
 use Rattle.sheets.specs.Table.{table}
 use Rattle.sheets.specs.Lookup.{opens}
 use Rattle.sheets.specs.Names.{Known, lookup, knows, givenOn}
-use Rattle.sheets.specs.Scopes.{withName, giveIf, give}
+use Rattle.sheets.specs.Scopes.{Scope, withName, giveIf, give}
 use Rattle.sheets.specs.Refusals.{name, Checked, fine, bad, thenᶜ, known?}
-use Rattle.sheets.specs.Check.{kindOfExpr, Stateᶜ, noted, stepᶜ, Walked, passes, refuses, onwardᶜ, stepsᶜ, readingKinds, startᶜ, walk}
+use Rattle.sheets.specs.Check.{kindOfExpr, Stateᶜ, lineᶜ, noted, stepᶜ, Walked, passes, refuses, onwardᶜ, stepsᶜ, readingKinds, startᶜ, walk}
 use Rattle.sheets.specs.Admitted.{HasKind, LineFits, LinesFit}
 use Rattle.sheets.proofs.check.KindExact.{kind-exact}
 
 -- ---- a line
 
--- the state that a line is passed with fits it
-abbrev Leaves : ℕ → Stateᶜ → Line → Checked Stateᶜ → Type 0
-Leaves i s l (fine t) = (n : ℕ) × (t .codes ≡ s .codes ++ (n ∷ [])) × LineFits i (s .scope .known) l (t .scope .known) n
-Leaves i s l (bad f) = Unit {0}
+-- a line that is passed fits
+abbrev pub Leaves : ℕ → Scope Kind → Line → Checked (ℕ × Scope Kind) → Type 0
+Leaves i c l (fine p) = LineFits i (c .known) l (p .1 .known) (p .0)
+Leaves i c l (bad f) = Unit {0}
 
-leaves : (i : ℕ) (s : Stateᶜ) (l : Line) → Leaves i s l (stepᶜ i s l)
-unfolding stepᶜ
-leaves i s (let-line w x) = go (kindOfExpr x (s .scope .known)) (λ k e. kind-exact x (s .scope .known) k .0 e)
+pub leaves : (i : ℕ) (c : Scope Kind) (l : Line) → Leaves i c l (lineᶜ i c l)
+unfolding lineᶜ
+leaves i c (let-line w x) = go (kindOfExpr x (c .known)) (λ k e. kind-exact x (c .known) k .0 e)
   where
-    next : (k : Kind) → HasKind x (s .scope .known) k → (a b : Bool) → opens table w ≡ a → knows w (s .scope .known) ≡ b → Leaves i s (let-line w x) (thenᶜ (giveIf (a || b) (givenOn i w k) (s .scope)) (noted s (kindCode k)))
+    next : (k : Kind) → HasKind x (c .known) k → (a b : Bool) → opens table w ≡ a → knows w (c .known) ≡ b → Leaves i c (let-line w x) (thenᶜ (giveIf (a || b) (givenOn i w k) c) (λ d. fine (kindCode k, d)))
     next k h true b p q = tt
     next k h false true p q = tt
-    next k h false false p q = (kindCode k, refl, (k, h, p, q, refl, refl))
+    next k h false false p q = (k, h, p, q, refl, refl)
 
-    go : (o : Checked Kind) → ((k : Kind) → o ≡ fine k → HasKind x (s .scope .known) k) → Leaves i s (let-line w x) (thenᶜ o (λ k. thenᶜ (give (givenOn i w k) (s .scope)) (noted s (kindCode k))))
-    go (bad c) h = tt
-    go (fine k) h = next k (h k refl) (opens table w) (knows w (s .scope .known)) refl refl
-leaves i s (show-line w) = go (lookup w (s .scope .known)) refl
+    go : (o : Checked Kind) → ((k : Kind) → o ≡ fine k → HasKind x (c .known) k) → Leaves i c (let-line w x) (thenᶜ o (λ k. thenᶜ (give (givenOn i w k) c) (λ d. fine (kindCode k, d))))
+    go (bad f) h = tt
+    go (fine k) h = next k (h k refl) (opens table w) (knows w (c .known)) refl refl
+leaves i c (show-line w) = go (lookup w (c .known)) refl
   where
-    go : (o : Option Kind) → lookup w (s .scope .known) ≡ o → Leaves i s (show-line w) (thenᶜ (known? name o) (λ k. noted s (kindCode k) (s .scope)))
+    go : (o : Option Kind) → lookup w (c .known) ≡ o → Leaves i c (show-line w) (thenᶜ (known? name o) (λ k. fine (kindCode k, c)))
     go none e = tt
-    go (some k) e = (kindCode k, refl, (k, e, refl, refl))
+    go (some k) e = (k, e, refl, refl)
 
--- and a line that fits is passed
-abbrev Taken : ℕ → Stateᶜ → Line → Known Kind → ℕ → Type 0
-Taken i s l js n = (t : Stateᶜ) × (stepᶜ i s l ≡ fine t) × (t .scope .known ≡ js) × (t .codes ≡ s .codes ++ (n ∷ []))
-
-takes : (i : ℕ) (s : Stateᶜ) (l : Line) (js : Known Kind) (n : ℕ) → LineFits i (s .scope .known) l js n → Taken i s l js n
-unfolding stepᶜ
-takes i s (let-line w x) js n (k, has, free, new, e, c) = (
-  record { scope = withName (givenOn i w k) (s .scope); codes = s .codes ++ (kindCode k ∷ []) },
-  ap (λ o. thenᶜ o (λ j. thenᶜ (give (givenOn i w j) (s .scope)) (noted s (kindCode j)))) (kind-exact x (s .scope .known) k .1 has)
-      ∙ ap (λ b. thenᶜ (giveIf b (givenOn i w k) (s .scope)) (noted s (kindCode k))) (ap₂ (λ a b. a || b) free new),
+-- and one that fits is passed
+takes : (i : ℕ) (c : Scope Kind) (l : Line) (js : Known Kind) (n : ℕ) → LineFits i (c .known) l js n → (d : Scope Kind) × (lineᶜ i c l ≡ fine (n, d)) × (d .known ≡ js)
+unfolding lineᶜ
+takes i c (let-line w x) js n (k, has, free, new, e, en) = (
+  withName (givenOn i w k) c,
+  ap (λ o. thenᶜ o (λ j. thenᶜ (give (givenOn i w j) c) (λ d. fine (kindCode j, d)))) (kind-exact x (c .known) k .1 has)
+      ∙ ap (λ b. thenᶜ (giveIf b (givenOn i w k) c) (λ d. fine (kindCode k, d))) (ap₂ (λ a b. a || b) free new)
+      ∙ ap (λ (m : ℕ). fine (m, withName (givenOn i w k) c)) en,
   e,
-  ap (λ (n : ℕ). s .codes ++ (n ∷ [])) c,
 )
-takes i s (show-line w) js n (k, has, e, c) = (
-  record { scope = s .scope; codes = s .codes ++ (kindCode k ∷ []) },
-  ap (λ o. thenᶜ (known? name o) (λ j. noted s (kindCode j) (s .scope))) has,
+takes i c (show-line w) js n (k, has, e, en) = (
+  c,
+  ap (λ o. thenᶜ (known? name o) (λ j. fine (kindCode j, c))) has ∙ ap (λ (m : ℕ). fine (m, c)) en,
   e,
-  ap (λ (n : ℕ). s .codes ++ (n ∷ [])) c,
 )
 
 -- ---- lines: what passes is admitted
@@ -67,28 +63,29 @@ Passing i s xs (passes all) = (cs : List ℕ) × (all ≡ s .codes ++ cs) × Lin
 Passing i s xs (refuses f j) = Unit {0}
 
 passing : (xs : List Line) (i : ℕ) (s : Stateᶜ) → Passing i s xs (stepsᶜ (numbered i xs) s)
-unfolding stepsᶜ
+unfolding stepsᶜ stepᶜ
 passing [] i s = ([], sym (append-nil (s .codes)), refl)
-passing (l ∷ xs) i s = go (λ t. passing xs (suc i) t) (stepᶜ i s l) (leaves i s l)
+passing (l ∷ xs) i s = go (λ t. passing xs (suc i) t) (lineᶜ i (s .scope) l) (leaves i (s .scope) l)
   where
-    next : (t : Stateᶜ) → Leaves i s l (fine t) → (o : Walked) → Passing (suc i) t xs o → Passing i s (l ∷ xs) o
-    next t (n, e, f) (passes all) (cs, ea, h) = (n ∷ cs, ea ∙ ap (λ (ms : List ℕ). ms ++ cs) e ∙ append-assoc (s .codes) (n ∷ []) cs, (t .scope .known, n, cs, f, h, refl))
-    next t h (refuses f j) p = tt
+    next : (p : ℕ × Scope Kind) → Leaves i (s .scope) l (fine p) → (o : Walked) → Passing (suc i) (noted s p) xs o → Passing i s (l ∷ xs) o
+    next p f (passes all) (cs, e, h) = (p .0 ∷ cs, e ∙ append-assoc (s .codes) (p .0 ∷ []) cs, (p .1 .known, p .0, cs, f, h, refl))
+    next p f (refuses g j) h = tt
 
-    go : ((t : Stateᶜ) → Passing (suc i) t xs (stepsᶜ (numbered (suc i) xs) t)) → (o : Checked Stateᶜ) → Leaves i s l o → Passing i s (l ∷ xs) (onwardᶜ o i (λ t. stepsᶜ (numbered (suc i) xs) t))
+    go : ((t : Stateᶜ) → Passing (suc i) t xs (stepsᶜ (numbered (suc i) xs) t)) → (o : Checked (ℕ × Scope Kind)) → Leaves i (s .scope) l o
+        → Passing i s (l ∷ xs) (onwardᶜ (thenᶜ o (λ p. fine (noted s p))) i (λ t. stepsᶜ (numbered (suc i) xs) t))
     go rest (bad f) h = tt
-    go rest (fine t) h = next t h (stepsᶜ (numbered (suc i) xs) t) (rest t)
+    go rest (fine p) h = next p h (stepsᶜ (numbered (suc i) xs) (noted s p)) (rest (noted s p))
 
 -- ---- what is admitted passes
 
 admitted-passes : (xs : List Line) (i : ℕ) (s : Stateᶜ) (cs : List ℕ) → LinesFit i (s .scope .known) xs cs → stepsᶜ (numbered i xs) s ≡ passes (s .codes ++ cs)
-unfolding stepsᶜ
+unfolding stepsᶜ stepᶜ
 admitted-passes [] i s cs h = ap passes (sym (append-nil (s .codes)) ∙ ap (λ (ds : List ℕ). s .codes ++ ds) h)
 admitted-passes (l ∷ xs) i s cs (js, n, ds, f, rest, e) =
-    let (t, et, ek, ec) = takes i s l js n f in
-    ap (λ o. onwardᶜ o i (λ t. stepsᶜ (numbered (suc i) xs) t)) et
-    ∙ admitted-passes xs (suc i) t ds (subst (λ ks. LinesFit (suc i) ks xs ds) (sym ek) rest)
-    ∙ ap passes (ap (λ (ms : List ℕ). ms ++ ds) ec ∙ append-assoc (s .codes) (n ∷ []) ds ∙ ap (λ (ms : List ℕ). s .codes ++ ms) e)
+    let (d, ed, ek) = takes i (s .scope) l js n f in
+    ap (λ o. onwardᶜ (thenᶜ o (λ p. fine (noted s p))) i (λ t. stepsᶜ (numbered (suc i) xs) t)) ed
+    ∙ admitted-passes xs (suc i) (noted s (n, d)) ds (subst (λ ks. LinesFit (suc i) ks xs ds) (sym ek) rest)
+    ∙ ap passes (append-assoc (s .codes) (n ∷ []) ds ∙ ap (λ (ms : List ℕ). s .codes ++ ms) e)
 
 -- ---- a whole sheet
 

@@ -11,8 +11,8 @@ use Rattle.sheets.specs.Text.{Word, ascii}
 use Rattle.sheets.specs.Trees.{Line, let-line, show-line}
 use Rattle.sheets.specs.Grammar.{IsWord}
 use Rattle.sheets.specs.code.reader.Codes.{letter, wordChar, codeFrom, codeOf}
-use Rattle.sheets.specs.code.reader.Reader.{Got, none, got, _then_, charsIf, chars, wordIf, readWord, readExpr, orElse, nothing, opening, spaced, closing, limit, more, first, one, fromRows, readRows, Begun, let-word, whole, lineRows, readBegun, rest, readLine}
-use Rattle.sheets.specs.code.reader.Views.{place, coded, closed, shortEnd, nameAt, namedAt, behind, lineHead}
+use Rattle.sheets.specs.code.reader.Reader.{Got, none, got, _then_, charsIf, chars, wordIf, readWord, readExpr, orElse, nothing, opening, spaced, limit, more, first, one, fromRows, readRows, Begun, let-word, whole, lineRows, readBegun, rest, readLine}
+use Rattle.sheets.specs.code.reader.Views.{place, coded, closed, shortEnd, nameAt, namedAt, lineHead}
 use Rattle.sheets.proofs.reader.ReaderLaws.{then-got, mapped}
 use Rattle.sheets.proofs.reader.Spans.{Holds, holds-none, holds-then, holds-at, holds-or, holds-map, spans-end}
 use Rattle.sheets.proofs.reader.TokenLaws.{WordAt, word-sound, word-spans}

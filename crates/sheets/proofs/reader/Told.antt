@@ -1,5 +1,4 @@
 -- What the answer of `head` says of line 1: which it is, and its numbers by their doubles. Assumes nothing.
-use Prim.Native.Nat.{ℕ}
 use mathlib.Core.Path.{_≡_, refl, sym, _∙_, subst}
 use Rattle.sheets.specs.Trees.{Num, Head, wgs84, custom}
 use Rattle.sheets.specs.Limits.{numValue}

@@ -22,9 +22,9 @@ ghost use Rattle.sheets.specs.code.reader.Views.{linesForm};
 ghost use Rattle.sheets.specs.Trees.{show-line};
 ghost use Rattle.sheets.specs.Answers.{ofForm};
 ghost use Rattle.sheets.specs.declared.check.admit.Outcome.{Outcome};
-ghost use Rattle.sheets.specs.code.check.Walking.{ForKnown, BarredWord, LineHas, WordHas, shortKind, LinesWalk, unlessBad, Admits};
+ghost use Rattle.sheets.specs.code.check.Walking.{ForKnown, BarredWord, ForScope, LineHas, WordHas, shortKind, LinesWalk, unlessBad, Admits};
 
-// The code of a line's word, its kind's code and the place of the next line, or the number of the refusal.
+// The code of a line's word, its kind code and the place of the next line, or the number of the refusal.
 pub enum LineKind {
     Is(u64, u8, usize),
     Refused(u8),
@@ -61,7 +61,7 @@ fn known_kind(
     codes: &[u8; 96],
     newest: &[u8; 512],
 ) -> LineKind
-    ensures { λ r. ⌜ ForKnown (now (words .entry)) (now (codes .entry)) (now (newest .entry)) (λ ps. WordHas code (λ w. got (show-line w) next) ps r) ⌝ }
+    ensures { λ r. ⌜ ForScope (now (words .entry)) (now (codes .entry)) (now (newest .entry)) (λ i c. WordHas code (λ w. got (show-line w) next) i c r) ⌝ }
 {
     let kind = find_kind(words, codes, newest, code);
     if kind == 255 {
@@ -79,7 +79,7 @@ fn let_kind(
     codes: &[u8; 96],
     newest: &[u8; 512],
 ) -> LineKind
-    ensures { λ r. ⌜ ForKnown (now (words .entry)) (now (codes .entry)) (now (newest .entry)) (λ ps. WordHas code (λ w. rest (now (s .entry)) (let-word w) at) ps r) ⌝ }
+    ensures { λ r. ⌜ ForScope (now (words .entry)) (now (codes .entry)) (now (newest .entry)) (λ i c. WordHas code (λ w. rest (now (s .entry)) (let-word w) at) i c r) ⌝ }
 {
     let r = kind_at(s, at, 11, words, codes, newest);
     match r {
@@ -120,7 +120,7 @@ fn line_kind(
     codes: &[u8; 96],
     newest: &[u8; 512],
 ) -> LineKind
-    ensures { λ r. ⌜ ForKnown (now (words .entry)) (now (codes .entry)) (now (newest .entry)) (λ ps. LineHas (readLine (now (s .entry)) at) ps r) ⌝ }
+    ensures { λ r. ⌜ ForScope (now (words .entry)) (now (codes .entry)) (now (newest .entry)) (λ i c. LineHas (readLine (now (s .entry)) at) i c r) ⌝ }
 {
     let h = line_head(s, at);
     match h {

@@ -9,7 +9,6 @@ use crate::run::eval::eval;
 use crate::run::operands::Found;
 use crate::run::operands::operand_at;
 use frames::ellipsoid::Ellipsoid;
-ghost use mathlib.Core.Path.{_≡_};
 ghost use Rattle.sheets.specs.code.run.Running.{NextLine, LetWith, ShowWith, EffectWith};
 
 // It gives the word with this code a value; it shows a value under the word that ends at this place; or the machine stops, by the refusal's number, or sticks.

@@ -2,7 +2,7 @@
 -- No part of what must be believed: they only tie the code to the definitions.
 use Prim.Native.Nat.{ℕ, zero, suc, _+_, _≤_}
 use mathlib.Core.Path.{_≡_}
-use mathlib.Core.Bool.{Bool, true, false}
+use mathlib.Core.Bool.{Bool}
 use mathlib.Core.List.{List, _∷_, map}
 use lib.Dec.{eqb, leb}
 use mir.Val.{hasKey}
@@ -18,8 +18,9 @@ use Rattle.sheets.specs.Table.{when}
 use Rattle.sheets.specs.Names.{Known, lookup, barred, readingWords}
 use Rattle.sheets.specs.code.check.Newest.{searchFrom, Newest}
 use Rattle.sheets.specs.code.rows.KindCodes.{keyFrom, kindOr255}
-use Rattle.sheets.specs.Refusals.{name, Refusal, form, fault, refusalNumber, Checked, fine, bad, thenᶜ, known?}
-use Rattle.sheets.specs.Check.{kindOfExpr, kindsOfExprs, Walked, passes, refuses, stepsᶜ, startᶜ}
+use Rattle.sheets.specs.Scopes.{Scope}
+use Rattle.sheets.specs.Refusals.{Refusal, form, fault, refusalNumber, Checked, fine, bad}
+use Rattle.sheets.specs.Check.{kindOfExpr, kindsOfExprs, lineᶜ, Walked, passes, refuses, stepsᶜ, startᶜ}
 use Rattle.sheets.specs.Machine.{surface}
 use Rattle.sheets.specs.Answers.{Verdict, admitted, refused}
 use Rattle.sheets.specs.declared.reader.form.FormRead.{FormRead}
@@ -87,28 +88,23 @@ abbrev pub lineWord : Line → Word
 lineWord (let-line w x) = w
 lineWord (show-line w) = w
 
-abbrev pub unbarred : Bool → Kind → Checked Kind
-unbarred true k = bad name
-unbarred false k = fine k
+-- the lines passed stand for the words that the scope knows; the line is line i, whatever i is
+pub record ForScope (words codes newest : List ℕ) (P : ℕ → Scope Kind → Type 0) : Type 0 where
+  pub is : (i : ℕ) (c : Scope Kind) → Standing words codes newest (c .known) → P i c
 
--- the kind of a line's word, where refusals 5 and 6 let the line pass
-unfoldable pub lineKind : Line → Known Kind → Checked Kind
-lineKind (let-line w x) ps = thenᶜ (kindOfExpr x ps) (λ k. unbarred (barred w ps) k)
-lineKind (show-line w) ps = known? name (lookup w ps)
-
--- the code of the line's word, its kind's code and the place of the next line, or the refusal's number
-unfoldable pub lineSaid : Word → Checked Kind → ℕ → LineKind
-lineSaid w (fine k) n = LineKind.Is (codeOf w) (kindCode k) n
+-- the code of the line's word, its kind code and the place of the next line, or the refusal's number
+unfoldable pub lineSaid : Word → Checked (ℕ × Scope Kind) → ℕ → LineKind
+lineSaid w (fine p) n = LineKind.Is (codeOf w) (p .0) n
 lineSaid w (bad f) n = LineKind.Refused (refusalNumber (fault f))
 
 -- r answers the line that the reader reads, and refuses where it reads none
-pub record LineHas (o : Got Line) (ps : Known Kind) (r : LineKind) : Type 0 where
-  pub is : (l : Line) (n : ℕ) → o ≡ got l n → r ≡ lineSaid (lineWord l) (lineKind l ps) n
-  pub read : (c k n : ℕ) → r ≡ LineKind.Is c k n → (l : Line) × (o ≡ got l n)
+pub record LineHas (o : Got Line) (i : ℕ) (c : Scope Kind) (r : LineKind) : Type 0 where
+  pub is : (l : Line) (n : ℕ) → o ≡ got l n → r ≡ lineSaid (lineWord l) (lineᶜ i c l) n
+  pub read : (w k n : ℕ) → r ≡ LineKind.Is w k n → (l : Line) × (o ≡ got l n)
 
 -- r answers what the reader reads of a line whose word, of this code, it has read
-pub record WordHas (code : ℕ) (o : Word → Got Line) (ps : Known Kind) (r : LineKind) : Type 0 where
-  pub is : (w : Word) → IsWord w → codeOf w ≡ code → LineHas (o w) ps r
+pub record WordHas (code : ℕ) (o : Word → Got Line) (i : ℕ) (c : Scope Kind) (r : LineKind) : Type 0 where
+  pub is : (w : Word) → IsWord w → codeOf w ≡ code → LineHas (o w) i c r
 
 -- refusal 3 for a line at a place that has more than 200 bytes
 unfoldable pub shortKind : ℕ → LineKind → LineKind

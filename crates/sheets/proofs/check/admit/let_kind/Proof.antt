@@ -17,7 +17,7 @@ is-barred-requires : tie.Need-is-barred-requires
 is-barred-requires c κs = search needs
 
 returns : tie.Need-returns
-returns c = record { is = λ ps st. let-barred _ _ _ ps _ (c .before .before .before .before .before .kind-at .ensures .is ps st) _ _ (c .before .before .before .r2 .given .1) _ (c .before .is-barred .ensures .is ps st) (c .if1 .taken) }
+returns c = record { is = λ i d st. let-barred _ _ _ i d _ (c .before .before .before .before .before .kind-at .ensures .is (d .known) st) _ _ (c .before .before .before .r2 .given .1) _ (c .before .is-barred .ensures .is (d .known) st) (c .if1 .taken) }
 
 closing-requires : tie.Need-closing-requires
 closing-requires c κs = search needs
@@ -29,13 +29,13 @@ enum-known-c : tie.Need-enum-known-c
 enum-known-c c = search needs
 
 returns-2 : tie.Need-returns-2
-returns-2 c = record { is = λ ps st. let-refused _ _ _ ps _ (c .before .before .before .kind-at .ensures .is ps st) _ (c .before .r .given .1) }
+returns-2 c = record { is = λ i d st. let-refused _ _ _ i d _ (c .before .before .before .kind-at .ensures .is (d .known) st) _ (c .before .r .given .1) }
 
 returns-3 : tie.Need-returns-3
-returns-3 c = record { is = λ ps st. let-no-end _ _ _ ps _ (c .before .before .before .before .before .before .before .before .kind-at .ensures .is ps st) _ _ (c .before .before .before .before .before .before .r2 .given .1) _ (c .before .before .before .before .is-barred .ensures .is ps st) (c .before .before .before .if1 .left) _ (c .before .before .closing .ensures) _ (c .enum-told .given .1) }
+returns-3 c = record { is = λ i d st. let-no-end _ _ _ i d _ (c .before .before .before .before .before .before .before .before .kind-at .ensures .is (d .known) st) _ _ (c .before .before .before .before .before .before .r2 .given .1) _ (c .before .before .before .before .is-barred .ensures .is (d .known) st) (c .before .before .before .if1 .left) _ (c .before .before .closing .ensures) _ (c .enum-told .given .1) }
 
 returns-4 : tie.Need-returns-4
-returns-4 c = record { is = λ ps st. let-given _ _ _ ps _ (c .before .before .before .before .before .before .before .before .before .kind-at .ensures .is ps st) _ _ (c .before .before .before .before .before .before .before .r2 .given .1) _ (c .before .before .before .before .before .is-barred .ensures .is ps st) (c .before .before .before .before .if1 .left) _ (c .before .before .before .closing .ensures) _ (c .before .c .given .1) }
+returns-4 c = record { is = λ i d st. let-given _ _ _ i d _ (c .before .before .before .before .before .before .before .before .before .kind-at .ensures .is (d .known) st) _ _ (c .before .before .before .before .before .before .before .r2 .given .1) _ (c .before .before .before .before .before .is-barred .ensures .is (d .known) st) (c .before .before .before .before .if1 .left) _ (c .before .before .before .closing .ensures) _ (c .before .c .given .1) }
 
 pub let-kind-spec : {M : Type 1} → statement M
 let-kind-spec =

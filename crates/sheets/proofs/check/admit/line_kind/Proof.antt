@@ -31,14 +31,14 @@ short-kind-requires-2 : tie.Need-short-kind-requires-2
 short-kind-requires-2 c κs = search needs
 
 returns : tie.Need-returns
-returns c = record { is = λ ps st. line-nothing _ (head-says _ _ _ (c .before .before .line-head .ensures) _ (c .enum-told .given .1)) ps _ }
+returns c = record { is = λ i d st. line-nothing _ (head-says _ _ _ (c .before .before .line-head .ensures) _ (c .enum-told .given .1)) i d _ }
 
 returns-2 : tie.Need-returns-2
-returns-2 c = record { is = λ ps st. line-word _ _ ps _ _ (head-says _ _ _ (c .before .before .before .before .before .line-head .ensures) _ (c .before .before .before .h .given .1)) _ (c .before .let-kind .ensures .is ps st) _ (c .short-kind .ensures) }
+returns-2 c = record { is = λ i d st. line-word _ _ i d _ _ (head-says _ _ _ (c .before .before .before .before .before .line-head .ensures) _ (c .before .before .before .h .given .1)) _ (c .before .let-kind .ensures .is i d st) _ (c .short-kind .ensures) }
 
 returns-3 : tie.Need-returns-3
 unfolding rest
-returns-3 c = record { is = λ ps st. line-word _ _ ps _ _ (head-says _ _ _ (c .before .before .before .before .before .line-head .ensures) _ (c .before .before .before .h2 .given .1)) _ (c .before .known-kind .ensures .is ps st) _ (c .short-kind2 .ensures) }
+returns-3 c = record { is = λ i d st. line-word _ _ i d _ _ (head-says _ _ _ (c .before .before .before .before .before .line-head .ensures) _ (c .before .before .before .h2 .given .1)) _ (c .before .known-kind .ensures .is i d st) _ (c .short-kind2 .ensures) }
 
 pub line-kind-spec : {M : Type 1} → statement M
 line-kind-spec =

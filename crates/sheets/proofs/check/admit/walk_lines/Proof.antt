@@ -37,7 +37,7 @@ unless-bad-requires : tie.Need-unless-bad-requires Inv-loop μ-loop
 unless-bad-requires c κs = omega arith
 
 returns-2 : tie.Need-returns-2 Inv-loop μ-loop
-returns-2 c = walk-fault _ _ _ _ _ _ _ (c .before .before .before .before .before .before .before .before .before .before .loop .inv .3) (c .before .before .before .before .before .before .before .before .before .loop-test .taken) _ (c .before .before .before .before .line-kind .ensures .is _ (_, c .before .before .before .before .before .before .before .before .before .before .loop .inv .3 .stands)) (c .before .before .before .before .before .before .before .before .if1 .left) _ (c .before .before .r .given .1) _ _ (c .unless-bad .ensures _)
+returns-2 c = walk-fault _ _ _ _ _ _ _ (c .before .before .before .before .before .before .before .before .before .before .loop .inv .3) (c .before .before .before .before .before .before .before .before .before .loop-test .taken) _ (c .before .before .before .before .line-kind .ensures .is _ _ (_, c .before .before .before .before .before .before .before .before .before .before .loop .inv .3 .stands)) (c .before .before .before .before .before .before .before .before .if1 .left) _ (c .before .before .r .given .1) _ _ (c .unless-bad .ensures _)
 
 enum-known-r-2 : tie.Need-enum-known-r-2 Inv-loop μ-loop
 enum-known-r-2 c = search needs
@@ -64,7 +64,7 @@ loop-less : tie.Need-loop-less Inv-loop μ-loop
 loop-less c = omega arith
 
 loop-again : tie.Need-loop-again Inv-loop μ-loop
-loop-again c = (omega arith, simp length-set (c .before .before .before .before .before .before .before .before .before .before .before .loop .inv .1), simp length-set (c .before .before .before .before .before .before .before .before .before .before .before .loop .inv .2), walk-on _ _ _ _ _ _ _ (c .before .before .before .before .before .before .before .before .before .before .before .loop .inv .3) (c .before .before .before .before .before .before .before .before .before .before .loop-test .taken) _ (c .before .before .before .before .before .line-kind .ensures .is _ (_, c .before .before .before .before .before .before .before .before .before .before .before .loop .inv .3 .stands)) (c .before .before .before .before .before .before .before .before .before .if1 .left) (c .before .before .before .before .before .before .before .before .before .before .before .loop .inv .1) (c .before .before .before .before .before .before .before .before .before .before .before .loop .inv .2) _ _ _ (c .before .before .before .r2 .given .1) _ (c .put-newest .ensures))
+loop-again c = (omega arith, simp length-set (c .before .before .before .before .before .before .before .before .before .before .before .loop .inv .1), simp length-set (c .before .before .before .before .before .before .before .before .before .before .before .loop .inv .2), walk-on _ _ _ _ _ _ _ (c .before .before .before .before .before .before .before .before .before .before .before .loop .inv .3) (c .before .before .before .before .before .before .before .before .before .before .loop-test .taken) _ (c .before .before .before .before .before .line-kind .ensures .is _ _ (_, c .before .before .before .before .before .before .before .before .before .before .before .loop .inv .3 .stands)) (c .before .before .before .before .before .before .before .before .before .if1 .left) (c .before .before .before .before .before .before .before .before .before .before .before .loop .inv .1) (c .before .before .before .before .before .before .before .before .before .before .before .loop .inv .2) _ _ _ (c .before .before .before .r2 .given .1) _ (c .put-newest .ensures))
 
 add-t29 : tie.Need-add-t29 Inv-loop μ-loop
 add-t29 c = omega arith
