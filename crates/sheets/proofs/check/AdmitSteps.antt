@@ -7,6 +7,7 @@ use mathlib.Core.List.{List, [], _∷_, _++_}
 use lib.ListN.{length, take, set, replicate}
 use lib.Seq.{take-suc-set, length-take-le}
 use Rattle.frames.specs.declared.ellipsoid.Ellipsoid.{Ellipsoid}
+use Rattle.sheets.specs.Text.{Word}
 use Rattle.sheets.specs.Trees.{Line, let-line, show-line, Head, Sheet, numbered}
 use Rattle.sheets.specs.Grammar.{IsLine, after}
 use Rattle.sheets.specs.code.reader.Codes.{codeOf}
@@ -15,7 +16,7 @@ use Rattle.sheets.specs.code.reader.Views.{linesForm}
 use Rattle.sheets.specs.code.check.FirstLines.{firstIn, firstOf}
 use Rattle.sheets.specs.Kinds.{Kind}
 use Rattle.sheets.specs.Scopes.{Scope}
-use Rattle.sheets.specs.Refusals.{Fault, fault, refusalNumber, Checked, fine, bad, thenᶜ}
+use Rattle.sheets.specs.Refusals.{Fault, name, kind, fault, refusalNumber, Checked, fine, bad, thenᶜ}
 use Rattle.sheets.specs.Check.{Stateᶜ, lineᶜ, noted, stepᶜ, Walked, passes, refuses, onwardᶜ, stepsᶜ, startᶜ, walk}
 use Rattle.sheets.specs.Admitted.{LineFits}
 use Rattle.sheets.specs.Answers.{ranged, ofWalked, ofForm}
@@ -48,6 +49,11 @@ laid-after codes n h s k e =
     let en : n + 1 ≡ suc n = omega arith in
     ap (λ j. take j (set codes n k)) en ∙ take-suc-set codes n k h ∙ ap (λ z. z ++ (k ∷ [])) e
 
+-- what the walk meets comes behind the form
+fault-over : (f : Fault) → 3 < refusalNumber (fault f)
+fault-over name = omega arith
+fault-over kind = omega arith
+
 -- ---- readings put together
 
 alone : (f : Form (List Line)) → f ≡ (f thenᶠ (λ ls. formed ls))
@@ -74,6 +80,10 @@ pub record Midway (s : List ℕ) (start at passed : ℕ) (words codes newest : L
 pub midway-start : (s : List ℕ) (at : ℕ) → Midway s at at 0 (replicate 96 0) (replicate 96 255) (replicate 512 0)
 unfolding kindFrom
 midway-start s at = record { before = λ ls. ls; phase = 0; state = startᶜ; whole = alone (readLines 95 2 0 s at); walked = λ ls. refl; stands = record { few = omega arith; from = newest-none _; is = reading-is }; laid = refl }
+
+-- of bytes that are the same
+pub walk-same : (s t : List ℕ) → s ≡ t → (start : ℕ) (e : Ellipsoid) (a : Admission) → LinesWalk (readLines 95 2 0 s start) e start a → LinesWalk (readLines 95 2 0 t start) e start a
+walk-same s t h start e a w = subst (λ l. LinesWalk (readLines 95 2 0 l start) e start a) h w
 
 module _ (s : List ℕ) (start at passed : ℕ) (words codes newest : List ℕ) (m : Midway s start at passed words codes newest) where
   -- the lines from this place on
@@ -109,6 +119,23 @@ module _ (s : List ℕ) (start at passed : ℕ) (words codes newest : List ℕ) 
 
     -- r is what the line came to
     module _ (r : LineKind) (hr : LineHas (readLine s at) (passed + 2) (m .state .scope) r) (le : passed < 95) where
+      -- a 3 is final: what the reader reads is never refused by it
+      pub walk-three : r ≡ LineKind.Refused 3 → (e : Ellipsoid) (a : Admission) → a .outcome ≡ Outcome.Refuses 3 (passed + 2) → Answers e a
+      unfolding lineSaid linesStep
+      walk-three er e a ea =
+          walk-bad (passed + 2) (
+          lines-step s at (passed + 2) (m .phase) (95 - passed) (omega arith) h
+          ∙ ap (λ o. linesStep false (passed + 2) o (λ l. readLines (95 - passed - 1) (passed + 2 + 1) (after (m .phase) l) s)) (unread (readLine s at) refl))
+          e a ea
+        where
+          refuted : (w : Word) (q : Checked (ℕ × Scope Kind)) (n : ℕ) → r ≡ lineSaid w q n → ⊥
+          refuted w (fine p) n i = let z : _≡_ {A = ℕ} 0 1 = cc in omega arith
+          refuted w (bad f) n i = let z : 3 ≡ refusalNumber (fault f) = cc in omega (arith, z, fault-over f)
+
+          unread : (o : Got Line) → readLine s at ≡ o → readLine s at ≡ noGot
+          unread noGot eo = eo
+          unread (got l n) eo = absurd (refuted (lineWord l) (lineᶜ (passed + 2) (m .state .scope) l) n (hr .is l n eo))
+
       pub walk-fault : (number : ℕ) → r ≡ LineKind.Refused number → (e : Ellipsoid) (a : Admission)
           → a .outcome ≡ unlessBad (linesForm (passed + 2) (readLines (97 - (passed + 2)) (passed + 2) (m .phase) s at)) number (passed + 2) → Answers e a
       unfolding Walks lineSaid linesForm unlessBad

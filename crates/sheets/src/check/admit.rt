@@ -160,9 +160,13 @@ fn unless_bad(s: &[u8], at: usize, from: usize, number: u8, line: usize) -> Admi
 }
 
 // The lines from line 2, which stands at `start`. Line `passed` + 2 stands at `at`; a 97th is one too many.
-fn walk_lines(s: &[u8], start: usize, e: Ellipsoid) -> Admission
-    ensures { λ r. ⌜ LinesWalk (readLines 95 2 0 (now (s .entry)) start) e start r ⌝ }
+// What the reader reads is never refused by 3, so that a 3 is final.
+// `s` is the sheet as a slice of this function's own, which is lent as it stands; a slice that came from the caller would be copied for every call.
+fn walk_lines(sheet: &[u8], start: usize, e: Ellipsoid) -> Admission
+    ensures { λ r. ⌜ LinesWalk (readLines 95 2 0 (now (sheet .entry)) start) e start r ⌝ }
 {
+    let size = sheet.len();
+    let s = &sheet[..size];
     let mut words: [u64; 96] = [0; 96];
     let mut codes: [u8; 96] = [255; 96];
     let mut newest: [u8; 512] = [0; 512];
@@ -176,6 +180,9 @@ fn walk_lines(s: &[u8], start: usize, e: Ellipsoid) -> Admission
         match r {
             LineKind::Refused(number) => {
                 let line = passed + 2;
+                if number == 3 {
+                    return refused(3, line);
+                }
                 return unless_bad(s, at, line, number, line);
             }
             LineKind::Is(code, kind, next) => {
