@@ -62,7 +62,7 @@ nay false e = refl
 
 pub few-lines : (s : List ℕ) (v : Verdict) (a : Admission) → Admits s v a → (n : ℕ) (d : Ellipsoid) (at : ℕ) → a .outcome ≡ Outcome.Passes n d at → n ≤ 96
 unfolding Admits
-few-lines s (admitted c cs) a (m, el, p) n d at e = let o = p .0 in let l = p .1 in let i : n ≡ length cs = cc in omega arith
+few-lines s (admitted c cs) a (m, eh, el, p) n d at e = let o = p .0 in let l = p .1 in let i : n ≡ length cs = cc in omega arith
 few-lines s (refused r i) a o n d at e = let z : _≡_ {A = ℕ} 0 1 = cc in absurd (omega arith)
 
 module _ (s : List ℕ) (b : Bool) (eb : b ≡ sized s) where
@@ -90,7 +90,7 @@ module _ (s : List ℕ) (b : Bool) (eb : b ≡ sized s) where
       check-refused k j e = go (ofForm (readSheet s)) formed-is ha
         where
           go : (v : Verdict) → judged (lentKinds kinds) s ≡ v → Admits s v a → CheckOwes s kinds (record { number = k; line = j }) kinds
-          go (admitted c cs) ev (m, el, p) = let o = p .0 in let z : _≡_ {A = ℕ} 0 1 = cc in absurd (omega arith)
+          go (admitted c cs) ev (m, eh, el, p) = let o = p .0 in let z : _≡_ {A = ℕ} 0 1 = cc in absurd (omega arith)
           go (refused r i) ev o =
               let ik : k ≡ refusalNumber r = cc in
               let ij : j ≡ i = cc in
@@ -101,7 +101,7 @@ module _ (s : List ℕ) (b : Bool) (eb : b ≡ sized s) where
       check-passes n d at e kinds′ ek = go (ofForm (readSheet s)) formed-is ha
         where
           go : (v : Verdict) → judged (lentKinds kinds) s ≡ v → Admits s v a → CheckOwes s kinds (record { number = 0; line = 0 }) kinds′
-          go (admitted c cs) ev (m, el, p) =
+          go (admitted c cs) ev (m, eh, el, p) =
               let o = p .0 in
               let i : n ≡ length cs = cc in
               checks-by s kinds (admitted c cs) ev _ _ refl (ek ∙ ap (λ y. laid (take y (a .codes)) kinds) i ∙ ap (λ y. laid y kinds) (p .2))
@@ -138,7 +138,7 @@ module _ (s : List ℕ) (b : Bool) (eb : b ≡ sized s) where
         run-refused k j e r er = go (ofForm (readSheet s)) run-formed ha
           where
             go : (v : Verdict) → judged (lentRun rs out) s ≡ v → Admits s v a → RunOwes s rs out r out
-            go (admitted c cs) ev (m, el, p) = let o = p .0 in let z : _≡_ {A = ℕ} 0 1 = cc in absurd (omega arith)
+            go (admitted c cs) ev (m, eh, el, p) = let o = p .0 in let z : _≡_ {A = ℕ} 0 1 = cc in absurd (omega arith)
             go (refused f i) ev p =
                 let ik : k ≡ refusalNumber f = cc in
                 let ij : j ≡ i = cc in
@@ -156,7 +156,7 @@ module _ (s : List ℕ) (b : Bool) (eb : b ≡ sized s) where
                 hr .is o (c .lines) 95 0 (subst (λ y. readLines 95 2 0 s y ≡ formed (c .lines)) j el) refl (start (c .head) rs) i (tabled-start rs noNames) refl (omega arith) refl (unstuck (machine c rs) (walk c) ds (agree c rs) ew)
 
             walked : (c : Sheet) → readSheet s ≡ formed c → ranged (c .head) ≡ true → (w : Walked) → walk c ≡ w → Admits s (ofWalked c w) a → RunOwes s rs out r out′
-            walked c es er (passes ds) ew (m, el, p) =
+            walked c es er (passes ds) ew (m, eh, el, p) =
                 ran-by (admitted c (255 ∷ ds)) (run-formed ∙ ap ofForm es ∙ ap (λ b. ofRange b c) er ∙ ap (ofWalked c) ew) r out′ (starts c (255 ∷ ds) m el (p .0) ds ew)
             walked c es er (refuses q j) ew p = let z : _≡_ {A = ℕ} 0 1 = cc in absurd (omega arith)
 

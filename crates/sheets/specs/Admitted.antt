@@ -1,4 +1,4 @@
--- What document 01 admits, said apart from the check's walk: which expressions have a kind, and which lines may follow each other.
+-- What document 01 admits, said apart from the check's walk: which expressions have a kind, and which lines fit what is known before them.
 use mathlib.Core.Path.{_≡_}
 use mathlib.Core.Logic.{_⊎_}
 use mathlib.Core.List.{List, [], _∷_}
@@ -11,6 +11,7 @@ use Rattle.sheets.specs.Table.{table}
 use Rattle.sheets.specs.Lookup.{KindRow, kindRows, opens}
 use Rattle.sheets.specs.Names.{Known, lookup, knows, givenOn}
 
+-- the row is one of these
 abbrev pub In : KindRow → List KindRow → Type 0
 In r [] = ⊥
 In r (q ∷ rs) = (r ≡ q) ⊎ In r rs
@@ -32,7 +33,7 @@ abbrev pub LineFits : ℕ → Known Kind → Line → Known Kind → ℕ → Typ
 LineFits i ks (let-line w x) js n = (k : Kind) × HasKind x ks k × (opens table w ≡ false) × (knows w ks ≡ false) × (givenOn i w k ∷ ks ≡ js) × (kindCode k ≡ n)
 LineFits i ks (show-line w) js n = (k : Kind) × (lookup w ks ≡ some k) × (ks ≡ js) × (kindCode k ≡ n)
 
--- these lines from line i on, with their kind codes
+-- these lines from line i on, where the words ks are known before them, with their kind codes
 abbrev pub LinesFit : ℕ → Known Kind → List Line → List ℕ → Type 0
 LinesFit i ks [] cs = [] ≡ cs
 LinesFit i ks (l ∷ ls) cs = (js : Known Kind) × (n : ℕ) × (ds : List ℕ) × LineFits i ks l js n × LinesFit (suc i) js ls ds × (n ∷ ds ≡ cs)

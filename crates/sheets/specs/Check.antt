@@ -30,9 +30,11 @@ unfoldable pub lineᶜ : ℕ → Scope Kind → Line → Checked (ℕ × Scope K
 lineᶜ i c (let-line w x) = thenᶜ (kindOfExpr x (c .known)) (λ k. thenᶜ (give (givenOn i w k) c) (λ d. fine (kindCode k, d)))
 lineᶜ i c (show-line w) = thenᶜ (known? name (lookup w (c .known))) (λ k. fine (kindCode k, c))
 
+-- its code behind those of the lines before it, and what it leaves
 abbrev pub noted : Stateᶜ → ℕ × Scope Kind → Stateᶜ
 noted s p = record { scope = p .1; codes = s .codes ++ (p .0 ∷ []) }
 
+-- line i in the walk
 unfoldable pub stepᶜ : ℕ → Stateᶜ → Line → Checked Stateᶜ
 stepᶜ i s l = thenᶜ (lineᶜ i (s .scope) l) (λ p. fine (noted s p))
 
@@ -41,10 +43,12 @@ pub data Walked : Type 0 where
   passes : List ℕ → Walked
   refuses : Fault → ℕ → Walked
 
+-- on from what line i came to
 abbrev pub onwardᶜ : Checked Stateᶜ → ℕ → (Stateᶜ → Walked) → Walked
 onwardᶜ (fine t) i k = k t
 onwardᶜ (bad c) i k = refuses c i
 
+-- these lines, one after another
 unfoldable pub stepsᶜ : List Numbered → Stateᶜ → Walked
 stepsᶜ [] s = passes (s .codes)
 stepsᶜ (l ∷ ls) s = onwardᶜ (stepᶜ (l .0) s (l .1)) (l .0) (λ t. stepsᶜ ls t)
@@ -53,8 +57,10 @@ stepsᶜ (l ∷ ls) s = onwardᶜ (stepᶜ (l .0) s (l .1)) (l .0) (λ t. steps�
 abbrev pub readingKinds : Known Kind
 readingKinds = map (λ w. givenOn 0 w number) readingWords
 
+-- at line 2
 abbrev pub startᶜ : Stateᶜ
 startᶜ = record { scope = opened readingKinds; codes = [] }
 
+-- a whole sheet
 unfoldable pub walk : Sheet → Walked
 walk c = stepsᶜ (numbered 2 (c .lines)) startᶜ

@@ -66,10 +66,11 @@ abbrev mutual
   AreArgs d zero (x ▸ xs) = ⊥
   AreArgs d (suc k) (x ▸ xs) = IsExpr d x × AreArgs d k xs
 
--- ---- Each line is a bracket, ended by LF, and has at most 200 bytes with it. Brackets nest at most 12 deep, the line's own included.
+-- ---- Each line is a bracket, said below for each line, ended by LF
 abbrev pub ended : Expr → List ℕ
 ended x = print x ⌢ lf
 
+-- Brackets nest at most 12 deep, the line's own included; and a line has at most 200 bytes, with its LF.
 abbrev pub IsEnded : Expr → Type 0
 IsEnded x = IsExpr 12 x × (length (ended x) ≤ 200)
 
@@ -96,7 +97,7 @@ abbrev pub IsLine : Line → Type 0
 IsLine l = IsEnded (lineBracket l)
 
 -- ---- Which lines may stand where. It goes by a phase: 0 directly after line 1, and then what `after` gives for the line before.
--- Every line may stand in every phase; a form that may not says so here.
+-- So far every line may stand anywhere, and every line but line 2 is in the phase 1; a line that may not gets its clause here.
 unfoldable pub allowed : ℕ → Line → Bool
 allowed p l = true
 

@@ -1,10 +1,11 @@
-// The rows that make a plain value or a vector, and those that read a vector or a frame: each at values of the row's kinds.
-pub mod args;
-pub mod dispatch;
-pub mod frame_rows;
-pub mod kinds;
-pub mod limits;
-pub mod value;
+// The rows of the kind table, by values and by kinds, with the values themselves and their limits.
+// Here stand the rows that make a plain value or a vector, and those that read a vector or a frame: each at values of the row's kinds.
+pub(crate) mod args;
+pub(crate) mod dispatch;
+pub(crate) mod frame_rows;
+pub(crate) mod kinds;
+pub(crate) mod limits;
+pub(crate) mod value;
 
 use crate::rows::args::Aer;
 use crate::rows::args::Applied;

@@ -226,9 +226,9 @@ module _ (s : List ℕ) (q : FirstLine) (eq : q ≡ firstOf (readHead s)) (a : A
   abbrev Answered : Got Head → Type 0
   Answered o = Admits s (ofForm (sheetStep o (readLines 95 2 0 s))) a
 
-  by-head : ((o : Got Head) → firstOf o ≡ q → Answered o) → Admits s (ofForm (readSheet s)) a
+  by-head : ((o : Got Head) → readHead s ≡ o → firstOf o ≡ q → Answered o) → Admits s (ofForm (readSheet s)) a
   unfolding readSheet
-  by-head g = g (readHead s) (sym eq)
+  by-head g = g (readHead s) refl (sym eq)
 
   pub admit-no-head : q ≡ FirstLine.Bad → a .outcome ≡ Outcome.Refuses 3 1 → Admits s (ofForm (readSheet s)) a
   unfolding sheetStep firstOf firstIn Admits
@@ -238,9 +238,9 @@ module _ (s : List ℕ) (q : FirstLine) (eq : q ≡ firstOf (readHead s)) (a : A
       never true d m e = let z : _≡_ {A = ℕ} 0 1 = cc in absurd (omega arith)
       never false d m e = let z : _≡_ {A = ℕ} 0 1 = cc in absurd (omega arith)
 
-      go : (o : Got Head) → firstOf o ≡ q → Answered o
-      go noGot e = ea
-      go (got x m) e = never (ranged x) (surface x) m e
+      go : (o : Got Head) → readHead s ≡ o → firstOf o ≡ q → Answered o
+      go noGot eo e = ea
+      go (got x m) eo e = never (ranged x) (surface x) m e
 
   pub admit-out-of-range : (m : ℕ) → q ≡ FirstLine.OutOfRange m → a .outcome ≡ unlessBad (linesForm 2 (readLines 95 2 0 s m)) 4 1 → Admits s (ofForm (readSheet s)) a
   unfolding sheetStep firstOf firstIn Admits unlessBad linesForm _thenᶠ_
@@ -254,29 +254,29 @@ module _ (s : List ℕ) (q : FirstLine) (eq : q ≡ firstOf (readHead s)) (a : A
       in-it true x k er e = let z : _≡_ {A = ℕ} 0 1 = cc in absurd (omega arith)
       in-it false x k er e = let i : m ≡ k = cc in by-lines x (readLines 95 2 0 s k) er (ea ∙ ap (λ k. unlessBad (linesForm 2 (readLines 95 2 0 s k)) 4 1) i)
 
-      go : (o : Got Head) → firstOf o ≡ q → Answered o
-      go noGot e = let z : _≡_ {A = ℕ} 0 1 = cc in absurd (omega arith)
-      go (got x k) e = in-it (ranged x) x k refl e
+      go : (o : Got Head) → readHead s ≡ o → firstOf o ≡ q → Answered o
+      go noGot eo e = let z : _≡_ {A = ℕ} 0 1 = cc in absurd (omega arith)
+      go (got x k) eo e = in-it (ranged x) x k refl e
 
   pub admit-in-range : (d : Ellipsoid) (m : ℕ) → q ≡ FirstLine.Is d m → LinesWalk (readLines 95 2 0 s m) d m a → Admits s (ofForm (readSheet s)) a
   unfolding sheetStep firstOf firstIn Admits LinesWalk Walks walk _thenᶠ_
   admit-in-range d m h w = by-head go
     where
-      by-walk : (c : Sheet) → readLines 95 2 0 s m ≡ formed (c .lines) → (o : Walked) → Walks o (surface (c .head)) m a → Admits s (ofWalked c o) a
-      by-walk c el (passes cs) t = (m, el, t)
-      by-walk c el (refuses x j) t = t
+      by-walk : (c : Sheet) → readHead s ≡ got (c .head) m → readLines 95 2 0 s m ≡ formed (c .lines) → (o : Walked) → Walks o (surface (c .head)) m a → Admits s (ofWalked c o) a
+      by-walk c eh el (passes cs) t = (m, eh, el, t)
+      by-walk c eh el (refuses x j) t = t
 
-      by-lines : (x : Head) (f : Form (List Line)) → readLines 95 2 0 s m ≡ f → ranged x ≡ true → LinesWalk f (surface x) m a → Admits s (ofForm (f thenᶠ (λ ls. formed (record { head = x; lines = ls })))) a
-      by-lines x (badLine j) ef er t = t
-      by-lines x (formed ls) ef er t = rw er (by-walk (record { head = x; lines = ls }) ef (stepsᶜ (numbered 2 ls) startᶜ) t)
+      by-lines : (x : Head) (f : Form (List Line)) → readHead s ≡ got x m → readLines 95 2 0 s m ≡ f → ranged x ≡ true → LinesWalk f (surface x) m a → Admits s (ofForm (f thenᶠ (λ ls. formed (record { head = x; lines = ls })))) a
+      by-lines x (badLine j) eh ef er t = t
+      by-lines x (formed ls) eh ef er t = rw er (by-walk (record { head = x; lines = ls }) eh ef (stepsᶜ (numbered 2 ls) startᶜ) t)
 
-      in-it : (b : Bool) (x : Head) (k : ℕ) → ranged x ≡ b → firstIn b (surface x) k ≡ q → Answered (got x k)
-      in-it true x k er e =
+      in-it : (b : Bool) (x : Head) (k : ℕ) → readHead s ≡ got x k → ranged x ≡ b → firstIn b (surface x) k ≡ q → Answered (got x k)
+      in-it true x k eo er e =
           let i : m ≡ k = cc in
           let j : d ≡ surface x = cc in
-          subst (λ k. Answered (got x k)) i (by-lines x (readLines 95 2 0 s m) refl er (subst (λ d. LinesWalk (readLines 95 2 0 s m) d m a) j w))
-      in-it false x k er e = let z : _≡_ {A = ℕ} 0 1 = cc in absurd (omega arith)
+          subst (λ k. Answered (got x k)) i (by-lines x (readLines 95 2 0 s m) (eo ∙ ap (got x) (sym i)) refl er (subst (λ d. LinesWalk (readLines 95 2 0 s m) d m a) j w))
+      in-it false x k eo er e = let z : _≡_ {A = ℕ} 0 1 = cc in absurd (omega arith)
 
-      go : (o : Got Head) → firstOf o ≡ q → Answered o
-      go noGot e = let z : _≡_ {A = ℕ} 0 1 = cc in absurd (omega arith)
-      go (got x k) e = in-it (ranged x) x k refl e
+      go : (o : Got Head) → readHead s ≡ o → firstOf o ≡ q → Answered o
+      go noGot eo e = let z : _≡_ {A = ℕ} 0 1 = cc in absurd (omega arith)
+      go (got x k) eo e = in-it (ranged x) x k eo refl e

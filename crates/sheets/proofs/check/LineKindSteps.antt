@@ -11,7 +11,7 @@ use Rattle.sheets.specs.Text.{Word}
 use Rattle.sheets.specs.Trees.{Line, let-line, show-line}
 use Rattle.sheets.specs.Grammar.{IsWord}
 use Rattle.sheets.specs.code.reader.Codes.{codeOf}
-use Rattle.sheets.specs.code.reader.Reader.{Got, none as nothing, got, _then_, readExpr, orElse, nothing as none', closing, limit, let-word, rest, readLine}
+use Rattle.sheets.specs.code.reader.Reader.{Got, none as noGot, got, readExpr, orElse, nothing, closing, limit, let-word, rest, readLine}
 use Rattle.sheets.specs.code.reader.Views.{closed}
 use Rattle.sheets.specs.Kinds.{Kind, kindCode}
 use Rattle.sheets.specs.Table.{table, when}
@@ -73,7 +73,7 @@ module _ (ps : Known Kind) (code : ℕ) (t : Bool) (ht : t ≡ hasKey (rowCodes 
 not-line : {C : Type 0} (number c k n : ℕ) → LineKind.Refused number ≡ LineKind.Is c k n → C
 not-line number c k n e = let z : _≡_ {A = ℕ} 0 1 = cc in absurd (omega arith)
 
-pub line-nothing : (o : Got Line) → o ≡ nothing → (i : ℕ) (c : Scope Kind) (number : ℕ) → LineHas o i c (LineKind.Refused number)
+pub line-nothing : (o : Got Line) → o ≡ noGot → (i : ℕ) (c : Scope Kind) (number : ℕ) → LineHas o i c (LineKind.Refused number)
 line-nothing o h i c number = record { is = λ l n e. let z : _≡_ {A = ℕ} 0 1 = cc in absurd (omega arith); read = λ w k n e. not-line number w k n e }
 
 line-same : (j k f g m n : ℕ) → j ≡ k → f ≡ g → m ≡ n → LineKind.Is j f m ≡ LineKind.Is k g n
@@ -211,14 +211,14 @@ short-line at o i d r h = record {
   read = λ c k n e.
       let (er, short) = short-read r c k n e in
       let (l, eo) = h .read c k n er in
-      (l, ap (limit at) eo ∙ ap (λ b. orElse b (got l) none' n) short);
+      (l, ap (limit at) eo ∙ ap (λ b. orElse b (got l) nothing n) short);
 }
   where
     limit-read : (o : Got Line) (l : Line) (n : ℕ) → limit at o ≡ got l n → (o ≡ got l n) × (leb n (at + 200) ≡ true)
-    limit-read nothing l n e = let z : _≡_ {A = ℕ} 0 1 = cc in absurd (omega arith)
+    limit-read noGot l n e = let z : _≡_ {A = ℕ} 0 1 = cc in absurd (omega arith)
     limit-read (got j k) l n e = go (leb k (at + 200)) refl e
       where
-        go : (b : Bool) → leb k (at + 200) ≡ b → orElse b (got j) none' k ≡ got l n → (got j k ≡ got l n) × (leb n (at + 200) ≡ true)
+        go : (b : Bool) → leb k (at + 200) ≡ b → orElse b (got j) nothing k ≡ got l n → (got j k ≡ got l n) × (leb n (at + 200) ≡ true)
         go true h e = let i : n ≡ k = cc in (e, ap (λ m. leb m (at + 200)) i ∙ h)
         go false h e = let z : _≡_ {A = ℕ} 0 1 = cc in absurd (omega arith)
 

@@ -36,9 +36,12 @@ pub record Reached (s : List ℕ) (start first at number : ℕ) : Type 0 where
 pub number-next : (s : List ℕ) (at : ℕ) (r : Read) → r ≡ place (readLine s at) → (n : ℕ) → r ≡ Read.At n → (i j k : ℕ) → i + j ≡ countLF (take at s) + k → i + 1 + j ≡ countLF (take n s) + k
 number-next s at r er n h i j k e = let (x, ex) = placed-got (readLine s at) r er n h in omega (arith, line-step s x at n ex)
 
--- For a reader: behind a line 1 the number of a line is one more than the LFs before it.
-pub reached-number : (s : List ℕ) (x : Head) (start at number : ℕ) → readHead s ≡ got x start → Reached s start 2 at number → number ≡ countLF (take at s) + 1
-reached-number s x start at number e h = omega (arith, head-step s x start e, h .counts)
+-- For a reader: where line `first` has one LF less than its number before it, so has every line that is reached; and so has line 2 behind a line 1.
+pub reached-number : (s : List ℕ) (start first at number : ℕ) → first ≡ countLF (take start s) + 1 → Reached s start first at number → number ≡ countLF (take at s) + 1
+reached-number s start first at number e h = omega (arith, e, h .counts)
+
+pub second-number : (s : List ℕ) (x : Head) (start : ℕ) → readHead s ≡ got x start → 2 ≡ countLF (take start s) + 1
+second-number s x start e = omega (arith, head-step s x start e)
 
 -- ---- the turns of the loop
 module _ (s : List ℕ) (at i p : ℕ) (low : 1 ≤ i) (q : FormRead) (inv : linesForm i (readLines (97 - i) i p s at) ≡ q) where

@@ -8,15 +8,14 @@ use borrow.Author.Tests.{eq-eqb, ne-eqb}
 use Rattle.sheets.specs.Text.{Word, ascii}
 use Rattle.sheets.specs.Trees.{Head, wgs84, custom}
 use Rattle.sheets.specs.code.reader.Codes.{wordChar, codeFrom, codeOf}
-use Rattle.sheets.specs.code.reader.Reader.{Got, none, got, _then_, readWord, readNum, orElse, nothing, opening, spaced, closing, more, one, two, readThe, _or_, fromRows, readRows, headRows, readHead}
+use Rattle.sheets.specs.code.reader.Reader.{Got, none, got, _then_, readWord, readNum, orElse, nothing, opening, spaced, closing, more, one, two, readThe, _or_, fromRows, headRows, readHead}
 use Rattle.sheets.specs.code.reader.Views.{place, coded, doubled, closed, namedAt, headOf}
-use Rattle.sheets.proofs.reader.ReaderLaws.{then-got}
 use Rattle.sheets.proofs.reader.Spans.{Holds, holds-none, holds-at}
 use Rattle.sheets.proofs.reader.PieceLaws.{closing-holds}
 use Rattle.sheets.proofs.reader.LineLaws.{head-unlimited}
-use Rattle.sheets.proofs.reader.PieceSteps.{then-none, closing-none, closing-got}
-use Rattle.sheets.proofs.reader.RowSteps.{more-none, more-got, one-the}
-use Rattle.sheets.proofs.reader.Viewed.{placed-none, placed-got, coded-none, coded-got, doubled-none, doubled-got, named-none, named-got}
+use Rattle.sheets.proofs.reader.PieceSteps.{closing-none, closing-got}
+use Rattle.sheets.proofs.reader.RowSteps.{rows-none, rows-got, more-none, more-got, one-the}
+use Rattle.sheets.proofs.reader.Viewed.{placed-none, placed-got, doubled-none, doubled-got, named-none, named-got}
 use Rattle.sheets.specs.declared.reader.bytes.WordRead.{WordRead}
 use Rattle.sheets.specs.declared.reader.num.DoubleRead.{DoubleRead}
 use Rattle.sheets.specs.declared.reader.expr.Read.{Read}
@@ -63,44 +62,42 @@ is-wgs s at = go (spaced (readThe (ascii "wgs84") s) s at)
     go (got u n) = closing-holds (λ h n. h ≡ wgs84) wgs84 s n (λ m. refl)
 
 module _ (s : List ℕ) (at : ℕ) (v : NameRead) (ev : v ≡ namedAt (at + 1) (one readWord (λ w. w) s at)) where
-  wgs-by : (o : Got Word) → one readWord (λ w. w) s at ≡ o → one (readThe (ascii "wgs84")) (λ u. wgs84) s at ≡ (o then (λ w n. orElse (eqb (codeOf w) 43487611) (got wgs84) nothing n))
+  wgs-by : (o : Got Word) → one readWord (λ w. w) s at ≡ o → one (readThe (ascii "wgs84")) (λ u. wgs84) s at ≡ (o then (λ w n. orElse (eqb (codeOf w) (codeOf (ascii "wgs84"))) (got wgs84) nothing n))
   unfolding codeFrom wordChar
-  wgs-by o eo = one-the (ascii "wgs84") wgs84 s at ∙ ap (λ g. g then (λ w n. orElse (eqb (codeOf w) 43487611) (got wgs84) nothing n)) eo
+  wgs-by o eo = one-the (ascii "wgs84") wgs84 s at ∙ ap (λ g. g then (λ w n. orElse (eqb (codeOf w) (codeOf (ascii "wgs84"))) (got wgs84) nothing n)) eo
 
   pub wgs-no-word : v ≡ NameRead.Not → Read.Bad ≡ place (one (readThe (ascii "wgs84")) (λ u. wgs84) s at)
   unfolding place _then_
   wgs-no-word e = ap place (sym (wgs-by none (named-none (at + 1) _ v ev e)))
 
   module _ (y : NameAt) (n : ℕ) (e : v ≡ NameRead.Is y n) where
-    pub wgs-word : y .code ≡ 43487611 → Read.At n ≡ place (one (readThe (ascii "wgs84")) (λ u. wgs84) s at)
+    pub wgs-word : y .code ≡ codeOf (ascii "wgs84") → Read.At n ≡ place (one (readThe (ascii "wgs84")) (λ u. wgs84) s at)
     unfolding place _then_ orElse
     wgs-word j =
         let (w, ew, ey) = named-got (at + 1) _ v ev y n e in
-        let c : codeOf w ≡ 43487611 = sym (ap (λ (z : NameAt). z .code) ey) ∙ j in
-        rw (wgs-by (got w n) ew, eq-eqb (codeOf w) 43487611 c) refl
+        let c : codeOf w ≡ codeOf (ascii "wgs84") = sym (ap (λ (z : NameAt). z .code) ey) ∙ j in
+        rw (wgs-by (got w n) ew, eq-eqb (codeOf w) (codeOf (ascii "wgs84")) c) refl
 
-    pub wgs-other : (y .code ≡ 43487611 → ⊥) → Read.Bad ≡ place (one (readThe (ascii "wgs84")) (λ u. wgs84) s at)
+    pub wgs-other : (y .code ≡ codeOf (ascii "wgs84") → ⊥) → Read.Bad ≡ place (one (readThe (ascii "wgs84")) (λ u. wgs84) s at)
     unfolding place _then_ orElse
     wgs-other j =
         let (w, ew, ey) = named-got (at + 1) _ v ev y n e in
-        rw (wgs-by (got w n) ew, ne-eqb (codeOf w) 43487611 (λ c. j (ap (λ (z : NameAt). z .code) ey ∙ c))) refl
+        rw (wgs-by (got w n) ew, ne-eqb (codeOf w) (codeOf (ascii "wgs84")) (λ c. j (ap (λ (z : NameAt). z .code) ey ∙ c))) refl
 
 -- ---- line 1
 module _ (s : List ℕ) (r : WordRead) (er : r ≡ coded (opening s 0)) where
   pub head-no-word : r ≡ WordRead.Not → HeadRead.Bad ≡ headOf (readHead s)
-  unfolding readRows
-  head-no-word h = head-none _ (head-unlimited s ∙ then-none (opening s 0) _ (coded-none _ r er h))
+  head-no-word h = head-none _ (head-unlimited s ∙ rows-none headRows s 0 r er h)
 
   module _ (k n : ℕ) (h : r ≡ WordRead.Is k n) where
     head-is : readHead s ≡ fromRows headRows k s n
-    unfolding readRows
-    head-is = let (w, ew, ek) = coded-got (opening s 0) r er k n h in head-unlimited s ∙ then-got (opening s 0) _ w n ew ∙ ap (λ c. fromRows headRows c s n) (sym ek)
+    head-is = head-unlimited s ∙ rows-got headRows s 0 r er k n h
 
-    pub head-other : (k ≡ 18733023577577 → ⊥) → HeadRead.Bad ≡ headOf (readHead s)
+    pub head-other : (k ≡ codeOf (ascii "ellipsoid") → ⊥) → HeadRead.Bad ≡ headOf (readHead s)
     unfolding fromRows headRows orElse codeFrom wordChar
-    head-other i = head-none _ (head-is ∙ rw (ne-eqb k 18733023577577 i) refl)
+    head-other i = head-none _ (head-is ∙ rw (ne-eqb k (codeOf (ascii "ellipsoid")) i) refl)
 
-    module _ (i : k ≡ 18733023577577) (v : Read) (ev : v ≡ place (one (readThe (ascii "wgs84")) (λ u. wgs84) s n)) where
+    module _ (i : k ≡ codeOf (ascii "ellipsoid")) (v : Read) (ev : v ≡ place (one (readThe (ascii "wgs84")) (λ u. wgs84) s n)) where
       head-by : (o : Got Head) → one (readThe (ascii "wgs84")) (λ u. wgs84) s n ≡ o → readHead s ≡ (o or two readNum readNum custom s n)
       unfolding fromRows headRows orElse codeFrom wordChar
       head-by o eo = head-is ∙ rw (i, eo) refl

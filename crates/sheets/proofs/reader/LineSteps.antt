@@ -19,7 +19,7 @@ use Rattle.sheets.proofs.reader.TokenLaws.{WordAt, word-sound, word-spa
 use Rattle.sheets.proofs.reader.CodeLaws.{code-same, word-by}
 use Rattle.sheets.proofs.reader.PieceLaws.{OpenAt, open-sound, space-holds, closing-holds}
 use Rattle.sheets.proofs.reader.PieceSteps.{then-none, spaced-got, spaced-inside, closing-none, closing-got}
-use Rattle.sheets.proofs.reader.RowSteps.{more-none, more-got, first-mapped, one-mapped}
+use Rattle.sheets.proofs.reader.RowSteps.{rows-none, rows-got, more-none, more-got, first-mapped, one-mapped}
 use Rattle.sheets.proofs.reader.Viewed.{placed-none, placed-got, coded-none, coded-got, named-none, named-got}
 use Rattle.sheets.specs.declared.reader.bytes.WordRead.{WordRead}
 use Rattle.sheets.specs.declared.reader.expr.Read.{Read}
@@ -92,13 +92,13 @@ head-says s at r er q h = subst (Says s at (readLine s at)) (sym er ∙ h) (go (
 -- ---- a line that a word opens
 module _ (s : List ℕ) (at : ℕ) (r : WordRead) (er : r ≡ coded (opening s at)) where
   pub head-no-word : r ≡ WordRead.Not → LineHead.Bad ≡ lineHead at (readBegun s at)
-  unfolding readBegun readRows lineHead
-  head-no-word h = rw (then-none (opening s at) (λ k n. fromRows lineRows (codeOf k) s n) (coded-none _ r er h)) refl
+  unfolding readBegun lineHead
+  head-no-word h = ap (lineHead at) (sym (rows-none lineRows s at r er h))
 
   module _ (k n : ℕ) (h : r ≡ WordRead.Is k n) where
     row-is : readBegun s at ≡ fromRows lineRows k s n
-    unfolding readBegun readRows
-    row-is = let (w, ew, ek) = coded-got (opening s at) r er k n h in then-got (opening s at) _ w n ew ∙ ap (λ c. fromRows lineRows c s n) (sym ek)
+    unfolding readBegun
+    row-is = rows-got lineRows s at r er k n h
 
     -- where the word after the opening one begins
     behind-is : (v : Word) → IsWord v → k ≡ codeOf v → n + 1 ≡ at + length v + 2
@@ -113,7 +113,7 @@ module _ (s : List ℕ) (at : ℕ) (r : WordRead) (er : r ≡ coded (opening s a
       begun : readBegun s at ≡ mapped make o
       told : (w : Word) (m : ℕ) → lineHead at (got (make w) m) ≡ tell (nameAt w (n + 1)) m
 
-    pub opens-let : k ≡ 16633 → Worded (first readWord (λ w. w) s n) LineHead.Let
+    pub opens-let : k ≡ codeOf (ascii "let") → Worded (first readWord (λ w. w) s n) LineHead.Let
     unfolding lineRows fromRows orElse codeFrom wordChar readWord wordIf chars charsIf letter lineHead
     opens-let e = record {
       make = let-word;
@@ -121,7 +121,7 @@ module _ (s : List ℕ) (at : ℕ) (r : WordRead) (er : r ≡ coded (opening s a
       told = λ w m. ap (λ i. LineHead.Let (nameAt w i) m) (sym (behind-is (ascii "let") (word-by (ascii "let") refl) e));
     }
 
-    pub opens-show : k ≡ 973937 → Worded (one readWord (λ w. w) s n) LineHead.Show
+    pub opens-show : k ≡ codeOf (ascii "show") → Worded (one readWord (λ w. w) s n) LineHead.Show
     unfolding lineRows fromRows orElse codeFrom wordChar readWord wordIf chars charsIf letter lineHead
     opens-show e = record {
       make = λ w. whole (show-line w);
@@ -129,9 +129,9 @@ module _ (s : List ℕ) (at : ℕ) (r : WordRead) (er : r ≡ coded (opening s a
       told = λ w m. ap (λ i. LineHead.Show (nameAt w i) m) (sym (behind-is (ascii "show") (word-by (ascii "show") refl) e));
     }
 
-    pub opens-none : (k ≡ 16633 → ⊥) → (k ≡ 973937 → ⊥) → LineHead.Bad ≡ lineHead at (readBegun s at)
+    pub opens-none : (k ≡ codeOf (ascii "let") → ⊥) → (k ≡ codeOf (ascii "show") → ⊥) → LineHead.Bad ≡ lineHead at (readBegun s at)
     unfolding lineRows fromRows orElse codeFrom wordChar lineHead
-    opens-none e f = rw (row-is, ne-eqb k 16633 e, ne-eqb k 973937 f) refl
+    opens-none e f = rw (row-is, ne-eqb k (codeOf (ascii "let")) e, ne-eqb k (codeOf (ascii "show")) f) refl
 
     module _ (o : Got Word) (tell : NameAt → ℕ → LineHead) (t : Worded o tell) (v : NameRead) (ev : v ≡ namedAt (n + 1) o) where
       pub unnamed : v ≡ NameRead.Not → LineHead.Bad ≡ lineHead at (readBegun s at)

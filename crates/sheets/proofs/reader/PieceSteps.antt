@@ -6,8 +6,8 @@ use mathlib.Core.Bool.{Bool, true, false}
 use mathlib.Core.List.{List}
 use lib.Dec.{eqb}
 use lib.ListN.{length, getD}
-use borrow.Author.Tests.{eq-eqb, ne-eqb, lt-leb, eqb-true}
-use Rattle.sheets.specs.code.reader.Reader.{Got, none, got, _then_, orElse, nothing, opening, spaced, closing, limit}
+use borrow.Author.Tests.{eq-eqb, ne-eqb, eqb-true}
+use Rattle.sheets.specs.code.reader.Reader.{Got, none, got, _then_, orElse, nothing, opening, spaced, closing}
 use Rattle.sheets.specs.code.reader.Views.{place, closed}
 use Rattle.sheets.proofs.reader.ReaderLaws.{mapped, closing-mapped, byte-inside}
 use Rattle.sheets.proofs.reader.Viewed.{placed-none, placed-got}
@@ -62,8 +62,3 @@ module _ {A : Type 0} (x : A) (s : List ℕ) (at : ℕ) (r : Read) (er : r ≡ c
   pub closing-got : (n : ℕ) → r ≡ Read.At n → closing x s at ≡ got x n
   unfolding mapped
   closing-got n h = let (u, eu) = placed-got (closing tt s at) r er n h in closing-mapped x s at ∙ ap (mapped (λ u. x)) eu
-
--- more than 200 bytes
-pub limit-over : {A : Type 0} (at : ℕ) (x : A) (n : ℕ) → at + 200 < n → limit at (got x n) ≡ none
-unfolding limit orElse
-limit-over at x n h = rw (lt-leb n (at + 200) h) refl

@@ -1,4 +1,4 @@
--- What follows a line's opening word, a step at a time, as code reads it, whatever the line. Assumes nothing.
+-- A line's opening word and what follows it, a step at a time, as code reads it, whatever the line. Assumes nothing.
 use Prim.Native.Nat.{ℕ, _+_}
 use mathlib.Core.Path.{_≡_, refl, sym, ap, _∙_}
 use mathlib.Core.Bool.{Bool, true, false}
@@ -7,8 +7,22 @@ use lib.Dec.{eqb}
 use lib.ListN.{getD}
 use Rattle.sheets.specs.Text.{Word}
 use Rattle.sheets.specs.code.reader.Codes.{codeOf}
-use Rattle.sheets.specs.code.reader.Reader.{Got, none, got, _then_, readWord, orElse, nothing, spaced, closing, more, first, one, readThe}
+use Rattle.sheets.specs.code.reader.Reader.{Got, none, got, _then_, readWord, orElse, nothing, opening, spaced, closing, more, first, one, readThe, Row, fromRows, readRows}
+use Rattle.sheets.specs.code.reader.Views.{coded}
 use Rattle.sheets.proofs.reader.ReaderLaws.{then-got, mapped, space-mapped, closing-mapped}
+use Rattle.sheets.proofs.reader.PieceSteps.{then-none}
+use Rattle.sheets.proofs.reader.Viewed.{coded-none, coded-got}
+use Rattle.sheets.specs.declared.reader.bytes.WordRead.{WordRead}
+
+-- the opening word tells the row
+module _ {A : Type 0} (rs : List (Row A)) (s : List ℕ) (at : ℕ) (r : WordRead) (er : r ≡ coded (opening s at)) where
+  pub rows-none : r ≡ WordRead.Not → readRows rs s at ≡ none
+  unfolding readRows
+  rows-none h = then-none (opening s at) (λ k n. fromRows rs (codeOf k) s n) (coded-none _ r er h)
+
+  pub rows-got : (k n : ℕ) → r ≡ WordRead.Is k n → readRows rs s at ≡ fromRows rs k s n
+  unfolding readRows
+  rows-got k n h = let (w, ew, ek) = coded-got (opening s at) r er k n h in then-got (opening s at) _ w n ew ∙ ap (λ c. fromRows rs c s n) (sym ek)
 
 module _ {A B : Type 0} (f : List ℕ → ℕ → Got B) (k : B → List ℕ → ℕ → Got A) (s : List ℕ) (at : ℕ) where
   -- no space, or no such part

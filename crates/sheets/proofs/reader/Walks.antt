@@ -1,5 +1,4 @@
--- The lines of a sheet that is of the grammar, one after another, and what the answers of `head` and `line_head` say of them:
--- what every walk over the lines goes by. Assumes nothing.
+-- The lines of a sheet, one after another, as the reader of specs/code goes over them: what every walk over the lines goes by. Assumes nothing.
 use Prim.Native.Nat.{ℕ, zero, suc, _+_, _-_, _<_, _≤_}
 use native.Mathlib.Omega.{arith}
 use native.Mathlib.Numerals.{sub-one}
@@ -25,7 +24,7 @@ permitted-got p (got m k) l n e = go (allowed p m) refl e
     go false h e = let z : _≡_ {A = ℕ} 0 1 = cc in absurd (omega arith)
 
 -- every line may stand in every phase
-pub any-phase : (p : ℕ) (o : Got Line) → permitted p o ≡ o
+any-phase : (p : ℕ) (o : Got Line) → permitted p o ≡ o
 unfolding permitted allowed orElse
 any-phase p none = refl
 any-phase p (got l n) = refl

@@ -1,7 +1,7 @@
 // The kind of an expression, from the sheet alone: refusals 5 and 6 in the machine's order.
 // The lines passed are two lists: line i + 1 has the word with the code `words[i]`, of the kind with the code `codes[i]`.
 // Line 1 has no word; `newest` is that of newest.rt, for the places of `words`.
-// Bytes that are not of the grammar are refused, by refusal 3 where nothing is refused before them.
+// Bytes that are not of the grammar are refused, by one number or another: the form pass is what answers them (admit.rt). A refusal 3 is of such bytes alone.
 use crate::check::newest::word_place;
 use crate::reader::bytes::WordRead;
 use crate::reader::bytes::byte;

@@ -11,7 +11,7 @@ ghost use lib.Dec.{leb};
 ghost use Rattle.sheets.specs.code.reader.Reader.{readWord, opening, spaced, first, one, readBegun, readLine};
 ghost use Rattle.sheets.specs.code.reader.Views.{place, closed, shortEnd, coded, namedAt, lineHead};
 
-// A line's word: its code, the place of its first byte, and the place after it.
+// A line's word: its code, and where it stands, from its first byte to the place after it.
 pub struct NameAt {
     pub code: u64,
     pub from: usize,
@@ -19,7 +19,7 @@ pub struct NameAt {
 }
 
 // A word, and the place after what was read with it.
-pub enum NameRead {
+pub(crate) enum NameRead {
     Is(NameAt, usize),
     Not,
 }
@@ -43,7 +43,7 @@ pub fn opening(s: &[u8], at: usize) -> WordRead
 }
 
 // A space and a word.
-pub fn word_slot(s: &[u8], at: usize) -> WordRead
+pub(crate) fn word_slot(s: &[u8], at: usize) -> WordRead
     ensures { λ r. ⌜ r ≡ coded (spaced (readWord (now (s .entry))) (now (s .entry)) at) ⌝ }
 {
     let b = byte(s, at);
@@ -54,7 +54,7 @@ pub fn word_slot(s: &[u8], at: usize) -> WordRead
 }
 
 // `)` and LF.
-pub fn closing(s: &[u8], at: usize) -> Read
+pub(crate) fn closing(s: &[u8], at: usize) -> Read
     ensures { λ r. ⌜ r ≡ closed (now (s .entry)) at ⌝ }
 {
     let b = byte(s, at);
@@ -68,7 +68,7 @@ pub fn closing(s: &[u8], at: usize) -> Read
 }
 
 // A space, a word, and the end of the line.
-pub fn one_word(s: &[u8], at: usize) -> NameRead
+pub(crate) fn one_word(s: &[u8], at: usize) -> NameRead
     ensures { λ r. ⌜ r ≡ namedAt (at + 1) (one readWord (λ w. w) (now (s .entry)) at) ⌝ }
 {
     let w = word_slot(s, at);
@@ -135,7 +135,7 @@ pub fn line_head(s: &[u8], at: usize) -> LineHead
 }
 
 // Whether a line that stands at `at` has at most 200 bytes, where the next one stands at `next`.
-pub fn is_short(at: usize, next: usize) -> bool
+pub(crate) fn is_short(at: usize, next: usize) -> bool
     ensures { λ r. ⌜ r ≡ leb next (at + 200) ⌝ }
 {
     if 200 < next {
@@ -144,7 +144,7 @@ pub fn is_short(at: usize, next: usize) -> bool
     true
 }
 
-// The end of a line of at most 200 bytes.
+// The end of a line of at most 200 bytes. A show never has more, and is tested as every line is.
 fn short_end(at: usize, next: usize) -> Read
     ensures { λ r. ⌜ r ≡ shortEnd at next ⌝ }
 {

@@ -12,7 +12,7 @@ use Rattle.sheets.specs.Text.{Word}
 use Rattle.sheets.specs.Trees.{Expr, Exprs, Line, let-line, show-line, numbered}
 use Rattle.sheets.specs.Grammar.{IsWord}
 use Rattle.sheets.specs.code.reader.Codes.{codeOf}
-use Rattle.sheets.specs.code.reader.Reader.{Got, got, readArgs, readExpr, Form, formed, badLine, readLines}
+use Rattle.sheets.specs.code.reader.Reader.{Got, got, readArgs, readExpr, readHead, Form, formed, badLine, readLines}
 use Rattle.sheets.specs.Kinds.{Kind, kindCode}
 use Rattle.sheets.specs.Table.{when}
 use Rattle.sheets.specs.Names.{Known, lookup, barred, readingWords}
@@ -139,7 +139,7 @@ unfoldable pub unlessBad : FormRead → ℕ → ℕ → Outcome
 unlessBad (FormRead.Bad j) number line = Outcome.Refuses 3 j
 unlessBad (FormRead.Fine n) number line = Outcome.Refuses number line
 
--- a answers a whole sheet: refusals 3 to 6, or the kind code of each line, the ellipsoid and the place of line 2
+-- a answers a whole sheet: refusals 3 to 6, or the kind code of each line, the ellipsoid and the place of line 2, which is where line 1 ends
 unfoldable pub Admits : List ℕ → Verdict → Admission → Type 0
-Admits s (admitted c cs) a = (at : ℕ) × (readLines 95 2 0 s at ≡ formed (c .lines)) × Passing cs (surface (c .head)) at a
+Admits s (admitted c cs) a = (at : ℕ) × (readHead s ≡ got (c .head) at) × (readLines 95 2 0 s at ≡ formed (c .lines)) × Passing cs (surface (c .head)) at a
 Admits s (refused f j) a = Refusing f j a

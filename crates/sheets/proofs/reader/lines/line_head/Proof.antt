@@ -1,5 +1,6 @@
 -- `sheets::reader::lines::line_head` meets its contract. Assumes nothing.
 use Rattle.sheets.proofs.reader.LineSteps.{head-no-word, opens-let, opens-show, opens-none, unnamed, name-told}
+use Rattle.sheets.specs.code.reader.Codes.{wordChar, codeFrom}
 use borrow.Author.Needs.{needs}
 use Rattle.sheets.proofs.reader.lines.line_head.Statement.{statement}
 use Rattle.sheets.proofs.reader.lines.line_head.Tie as tie
@@ -35,18 +36,23 @@ enum-told-3 : tie.Need-enum-told-3
 enum-told-3 c = search needs
 
 returns-2 : tie.Need-returns-2
+unfolding wordChar codeFrom
 returns-2 c = name-told _ _ _ (c .before .before .before .before .before .before .before .before .opening .ensures) _ _ (c .before .before .before .before .before .before .k .given .1) _ _ (opens-let _ _ _ (c .before .before .before .before .before .before .before .before .opening .ensures) _ _ (c .before .before .before .before .before .before .k .given .1) (c .before .before .before .before .match2 .keys1)) _ (c .before .before .before .first-word .ensures) _ _ (c .before .r .given .1)
 
 returns-3 : tie.Need-returns-3
+unfolding wordChar codeFrom
 returns-3 c = unnamed _ _ _ (c .before .before .before .before .before .before .before .opening .ensures) _ _ (c .before .before .before .before .before .k .given .1) _ _ (opens-let _ _ _ (c .before .before .before .before .before .before .before .opening .ensures) _ _ (c .before .before .before .before .before .k .given .1) (c .before .before .before .match2 .keys1)) _ (c .before .before .first-word .ensures) (c .enum-told2 .given .1)
 
 returns-4 : tie.Need-returns-4
+unfolding wordChar codeFrom
 returns-4 c = name-told _ _ _ (c .before .before .before .before .before .before .before .before .opening .ensures) _ _ (c .before .before .before .before .before .before .k .given .1) _ _ (opens-show _ _ _ (c .before .before .before .before .before .before .before .before .opening .ensures) _ _ (c .before .before .before .before .before .before .k .given .1) (c .before .before .before .before .match2 .keys2)) _ (c .before .before .before .one-word .ensures) _ _ (c .before .r2 .given .1)
 
 returns-5 : tie.Need-returns-5
+unfolding wordChar codeFrom
 returns-5 c = unnamed _ _ _ (c .before .before .before .before .before .before .before .opening .ensures) _ _ (c .before .before .before .before .before .k .given .1) _ _ (opens-show _ _ _ (c .before .before .before .before .before .before .before .opening .ensures) _ _ (c .before .before .before .before .before .k .given .1) (c .before .before .before .match2 .keys2)) _ (c .before .before .one-word .ensures) (c .enum-told3 .given .1)
 
 returns-6 : tie.Need-returns-6
+unfolding wordChar codeFrom
 returns-6 c = opens-none _ _ _ (c .before .before .before .before .opening .ensures) _ _ (c .before .before .k .given .1) (c .match2 .rest .0 .1) (c .match2 .rest .1)
 
 pub line-head-spec : {M : Type 1} → statement M
