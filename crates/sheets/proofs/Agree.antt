@@ -12,18 +12,16 @@ use Rattle.sheets.specs.declared.rows.value.Value.the-variants.{Number}
 use Rattle.sheets.specs.Text.{Word}
 use Rattle.sheets.specs.Trees.{Expr, Exprs, word-expr, num-expr, form-expr, nil, _▸_, Line, let-line, show-line}
 use Rattle.sheets.specs.Kinds.{Kind, number, kindOf, kindCode}
-use Rattle.sheets.specs.Letters.{Holds, hold, orientations}
-use Rattle.sheets.specs.Table.{Row, on, when, table}
-use Rattle.sheets.specs.Lookup.{sameWord, Hit, hit, find, findKind, shared}
+use Rattle.sheets.specs.Table.{on, table}
+use Rattle.sheets.specs.Lookup.{Hit, find, findKind}
 use Rattle.sheets.specs.Names.{Given, Known, lookup, readingWords, givenOn}
 use Rattle.sheets.specs.Scopes.{Scope, opened, give}
 use Rattle.sheets.specs.Limits.{numValue, inLimit}
 use Rattle.sheets.specs.Refusals.{Fault, name, kind, Checked, fine, bad, thenᶜ, known?}
 use Rattle.sheets.specs.Machine.{Out, goes, stops, sticks, after, then, orSticks, test, meet, made, result, provided, applyRow, eval, evals, State, rescoped, step, readings}
 use Rattle.sheets.specs.Check.{kindOfExpr, kindsOfExprs, Stateᶜ, lineᶜ, noted, stepᶜ, readingKinds}
-use Rattle.sheets.specs.Claim.{All}
 use Rattle.sheets.proofs.rows.FindKind.{given, mapped, find-kind}
-use Rattle.sheets.proofs.rows.Kept.{Kept, kept}
+use Rattle.sheets.proofs.rows.Kept.{Kept, OfHit, kept-find}
 use Rattle.sheets.proofs.Alike.{Each₂, Both?, Match, KnownLike, ScopeLike, lookup-like, give-like}
 
 -- what the machine came to and what the check found, where R holds of a result and what the check sees of it
@@ -81,26 +79,7 @@ agree-provided : (b : Bool) (k : Unit {0} → Out Value) (c : Checked Kind) → 
 agree-provided true k c p = p
 agree-provided false k c p = tt
 
--- a row that was found is one of the table, so its value has its kind
-abbrev KeptHit : Option Hit → Type 0
-KeptHit none = Unit {0}
-KeptHit (some h) = Kept (h .row)
-
-kept-hit : (r : Row) (b : Bool) (o : Option (Holds (r .takes))) (p : Option Hit) → Kept r → KeptHit p → KeptHit (hit r b o p)
-kept-hit r false o p k h = h
-kept-hit r true none p k h = h
-kept-hit r true (some xs) p k h = go (shared (r .over) (orientations (r .takes) xs))
-  where
-    go : (b : Bool) → KeptHit (when b (some (record { row = r; args = xs })) p)
-    go true = k
-    go false = h
-
-kept-find : (rs : List Row) (w : Word) (vs : List Value) → All Kept rs → KeptHit (find rs w vs)
-unfolding find
-kept-find [] w vs k = tt
-kept-find (r ∷ rs) w vs k = kept-hit r (sameWord w (r .word)) (hold (r .takes) vs) (find rs w vs) (k .0) (kept-find rs w vs (k .1))
-
-agree-row : (e : Ellipsoid) (o : Option Hit) → KeptHit o → Agree Sees (applyRow e o) (known? kind (mapped given o))
+agree-row : (e : Ellipsoid) (o : Option Hit) → OfHit Kept o → Agree Sees (applyRow e o) (known? kind (mapped given o))
 agree-row e none k = (kind, refl)
 agree-row e (some h) k =
     let r = h .row in
@@ -115,7 +94,7 @@ mutual
   agree-eval (num-expr q) e ps ks l = agree-test [] (inLimit (Number (numValue q))) (Number (numValue q)) number refl
   agree-eval (form-expr w xs) e ps ks l =
       agree-then (Each₂ Sees) Sees (evals xs e ps) (kindsOfExprs xs ks) _ _ (agree-evals xs e ps ks l)
-      (λ vs js r. subst (λ o. Agree Sees (applyRow e (find table w vs)) (known? kind o)) (find-kind table w vs ∙ ap (findKind table w) (kinds-seen vs js r)) (agree-row e (find table w vs) (kept-find table w vs kept)))
+      (λ vs js r. subst (λ o. Agree Sees (applyRow e (find table w vs)) (known? kind o)) (find-kind table w vs ∙ ap (findKind table w) (kinds-seen vs js r)) (agree-row e (find table w vs) (kept-find w vs)))
 
   pub agree-evals : (xs : Exprs) (e : Ellipsoid) (ps : Known Value) (ks : Known Kind) → KnownLike Sees ps ks → Agree (Each₂ Sees) (evals xs e ps) (kindsOfExprs xs ks)
   agree-evals nil e ps ks l = ([], refl, tt)

@@ -13,7 +13,6 @@ use Rattle.frames.specs.declared.ellipsoid.Ellipsoid.{Ellipsoid}
 use Rattle.sheets.specs.declared.check.admit.Admission.{Admission}
 use Rattle.sheets.specs.declared.check.admit.Outcome.{Outcome}
 use Rattle.sheets.specs.Trees.{Sheet}
-use Rattle.sheets.specs.code.run.Slots.{noNames}
 use Rattle.sheets.specs.code.reader.Reader.{Form, formed, badLine, readLines, readSheet}
 use Rattle.sheets.specs.Refusals.{size, lent, refusalNumber}
 use Rattle.sheets.specs.code.check.Walking.{Admits}
@@ -33,7 +32,6 @@ use Rattle.numbers.proofs.FitLaws.{Fits}
 use Rattle.sheets.specs.Both.{Both}
 use Rattle.sheets.specs.declared.check_and_run.BothAnswers.{BothAnswers}
 use Rattle.sheets.specs.code.run.Running.{Runs}
-use Rattle.sheets.proofs.run.KnownLaws.{tabled-start}
 
 -- ---- the kind list
 
@@ -145,7 +143,7 @@ module _ (s : List ℕ) (b : Bool) (eb : b ≡ sized s) where
                 ran-by (refused f i) ev r out (er ∙ ap (λ y. record { number = y; line = j; written = 0 }) ik ∙ ap (λ y. record { number = refusalNumber f; line = y; written = 0 }) ij, refl)
 
         -- a sheet that passes never sticks, and the run over its lines begins with its ellipsoid at line 2
-        pub run-lines : (n : ℕ) (d : Ellipsoid) (at : ℕ) → a .outcome ≡ Outcome.Passes n d at → (r : RunAnswer) (out′ : List ℕ) → Runs s d rs out at 2 noNames 0 0 out r out′ → RunOwes s rs out r out′
+        pub run-lines : (n : ℕ) (d : Ellipsoid) (at : ℕ) → a .outcome ≡ Outcome.Passes n d at → (r : RunAnswer) (out′ : List ℕ) → Runs s at d rs out r out′ → RunOwes s rs out r out′
         unfolding Admits machine
         run-lines n d at e r out′ hr = go (readSheet s) refl ha
           where
@@ -153,7 +151,7 @@ module _ (s : List ℕ) (b : Bool) (eb : b ≡ sized s) where
             starts c cs m el p ds ew =
                 let i : surface (c .head) ≡ d = cc in
                 let j : m ≡ at = cc in
-                hr .is o (c .lines) 95 0 (subst (λ y. readLines 95 2 0 s y ≡ formed (c .lines)) j el) refl (start (c .head) rs) i (tabled-start rs noNames) refl (omega arith) refl (unstuck (machine c rs) (walk c) ds (agree c rs) ew)
+                hr .is o (c .lines) (subst (λ y. readLines 95 2 0 s y ≡ formed (c .lines)) j el) (start (c .head) rs) i refl refl (unstuck (machine c rs) (walk c) ds (agree c rs) ew)
 
             walked : (c : Sheet) → readSheet s ≡ formed c → ranged (c .head) ≡ true → (w : Walked) → walk c ≡ w → Admits s (ofWalked c w) a → RunOwes s rs out r out′
             walked c es er (passes ds) ew (m, eh, el, p) =

@@ -1,7 +1,6 @@
 -- Laws of the kind table's rows, and of the code that applies them.
 pub mod FindKind
 pub mod Kept
-pub mod AppliedLaws
 pub mod HeldLaws
 pub mod FamilyLaws
 pub mod WordLaws

@@ -1,9 +1,13 @@
 // The run of a sheet over sixteen readings: refusals 1 to 6 over the whole sheet before line 2 runs, then its lines.
-pub(crate) mod effects;
+pub(crate) mod apply;
 pub(crate) mod eval;
 pub(crate) mod fields;
+pub(crate) mod floats;
+pub(crate) mod known;
+pub(crate) mod laid;
 pub(crate) mod lines_run;
-pub(crate) mod operands;
+pub(crate) mod oriented_rows;
+pub(crate) mod plain_rows;
 pub(crate) mod text;
 
 use crate::answers::RunAnswer;

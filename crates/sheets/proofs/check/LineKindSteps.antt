@@ -23,8 +23,8 @@ use Rattle.sheets.specs.Refusals.{fault, refusalNumber, Checked, fine, b
 use Rattle.sheets.specs.Check.{kindOfExpr, lineᶜ}
 use Rattle.sheets.specs.declared.reader.expr.Read.{Read}
 use Rattle.sheets.proofs.reader.ReaderLaws.{then-got}
-use Rattle.sheets.proofs.reader.Inverse.{then-read}
-use Rattle.sheets.proofs.reader.PieceSteps.{closing-none, closing-got}
+use Rattle.sheets.proofs.reader.Inverse.{then-read, closing-read, limit-read}
+use Rattle.sheets.proofs.reader.PieceSteps.{closing-got}
 use Rattle.sheets.specs.code.check.Walking.{kindFound, Standing, kindSaid, ExprHas, lineWord, lineSaid, LineHas, WordHas, shortKind, BarredWord}
 use Rattle.sheets.specs.declared.check.kind_walk.KindRead.{KindRead}
 use Rattle.sheets.specs.declared.check.admit.LineKind.{LineKind}
@@ -79,17 +79,6 @@ line-nothing o h i c number = record { is = λ l n e. let z : _≡_ {A = ℕ} 0 
 line-same : (j k f g m n : ℕ) → j ≡ k → f ≡ g → m ≡ n → LineKind.Is j f m ≡ LineKind.Is k g n
 line-same j k f g m n d e h = rw (d, e, h) refl
 
--- `)` and LF
-closes : {A : Type 0} (x y : A) (s : List ℕ) (m n : ℕ) → closing x s m ≡ got y n → (y ≡ x) × (closed s m ≡ Read.At n)
-closes x y s m n e = go (closed s m) refl
-  where
-    go : (c : Read) → closed s m ≡ c → (y ≡ x) × (closed s m ≡ Read.At n)
-    go Read.Bad h = let i = closing-none x s m (closed s m) refl h in let z : _≡_ {A = ℕ} 0 1 = cc in absurd (omega arith)
-    go (Read.At p) h =
-        let i = closing-got x s m (closed s m) refl p h in
-        let j : p ≡ n = cc in
-        (cc, h ∙ ap (λ k. Read.At k) j)
-
 -- ---- a line that names a word: f is the kind code found for it
 
 module _ (words codes newest : List ℕ) (i : ℕ) (c : Scope Kind) (st : Standing words codes newest (c .known)) (code next f : ℕ) (hf : f ≡ kindFound words codes newest code) where
@@ -140,7 +129,7 @@ module _ (s : List ℕ) (at code i : ℕ) (d : Scope Kind) (q : KindRead) (hq : 
     is = λ w hw ec. record {
       is = λ l m e.
           let (x, j, ex, ez) = then-read (readExpr 11 s at) (λ x m. closing (let-line w x) s m) l m e in
-          let (el, et) = closes (let-line w x) l s j m ez in
+          let (el, et) = closing-read (let-line w x) l s j m ez in
           rw el (f w hw ec (kindOfExpr x (d .known)) j m (hq .is x j ex) et);
       read = g w;
     };
@@ -206,7 +195,7 @@ short-line : (at : ℕ) (o : Got Line) (i : ℕ) (d : Scope Kind) (r : LineKind)
 unfolding limit orElse shortKind lineSaid
 short-line at o i d r h = record {
   is = λ l n e.
-      let (eo, short) = limit-read o l n e in
+      let (eo, short) = limit-read at o l n e in
       ap (shortKind at) (h .is l n eo) ∙ said-short (lineWord l) (lineᶜ i d l) n short;
   read = λ c k n e.
       let (er, short) = short-read r c k n e in
@@ -214,14 +203,6 @@ short-line at o i d r h = record {
       (l, ap (limit at) eo ∙ ap (λ b. orElse b (got l) nothing n) short);
 }
   where
-    limit-read : (o : Got Line) (l : Line) (n : ℕ) → limit at o ≡ got l n → (o ≡ got l n) × (leb n (at + 200) ≡ true)
-    limit-read noGot l n e = let z : _≡_ {A = ℕ} 0 1 = cc in absurd (omega arith)
-    limit-read (got j k) l n e = go (leb k (at + 200)) refl e
-      where
-        go : (b : Bool) → leb k (at + 200) ≡ b → orElse b (got j) nothing k ≡ got l n → (got j k ≡ got l n) × (leb n (at + 200) ≡ true)
-        go true h e = let i : n ≡ k = cc in (e, ap (λ m. leb m (at + 200)) i ∙ h)
-        go false h e = let z : _≡_ {A = ℕ} 0 1 = cc in absurd (omega arith)
-
     said-short : (w : Word) (q : Checked (ℕ × Scope Kind)) (n : ℕ) → leb n (at + 200) ≡ true → shortKind at (lineSaid w q n) ≡ lineSaid w q n
     said-short w (fine p) n e = rw e refl
     said-short w (bad f) n e = refl

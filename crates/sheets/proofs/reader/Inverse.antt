@@ -3,16 +3,19 @@
 use Prim.Native.Nat.{ℕ, _+_, _-_}
 use native.Mathlib.Omega.{arith}
 use mathlib.Core.Path.{_≡_, refl, sym, ap, _∙_}
+use mathlib.Core.Bool.{Bool, true, false}
 use mathlib.Core.List.{List}
+use lib.Dec.{leb}
 use lib.ListN.{getD}
 use Rattle.sheets.specs.Text.{Word}
 use Rattle.sheets.specs.Trees.{Expr, Exprs, form-expr, _▸_}
 use Rattle.sheets.specs.Grammar.{IsWord}
 use Rattle.sheets.specs.code.reader.Codes.{codeOf}
-use Rattle.sheets.specs.code.reader.Reader.{Got, none, got, _then_, readWord, readArgs, readExpr}
-use Rattle.sheets.specs.code.reader.Views.{place, coded}
+use Rattle.sheets.specs.code.reader.Reader.{Got, none, got, _then_, readWord, readArgs, readExpr, orElse, nothing, closing, limit}
+use Rattle.sheets.specs.code.reader.Views.{place, closed, coded}
 use Rattle.sheets.specs.declared.reader.bytes.WordRead.{WordRead}
 use Rattle.sheets.specs.declared.reader.expr.Read.{Read}
+use Rattle.sheets.proofs.reader.PieceSteps.{closing-none, closing-got}
 use Rattle.sheets.proofs.reader.Viewed.{coded-got}
 use Rattle.sheets.proofs.reader.ExprSteps.{args-step, expr-step}
 use Rattle.sheets.proofs.reader.Slices.{word-is}
@@ -26,6 +29,27 @@ pub then-read : {A B : Type 0} (o : Got A) (k : A → ℕ → Got B) (y : B) (n 
 unfolding _then_
 then-read none k y n e = let z : _≡_ {A = ℕ} 0 1 = cc in absurd (omega arith)
 then-read (got x m) k y n e = (x, m, refl, e)
+
+-- `)` and LF
+pub closing-read : {A : Type 0} (x y : A) (s : List ℕ) (m n : ℕ) → closing x s m ≡ got y n → (y ≡ x) × (closed s m ≡ Read.At n)
+closing-read x y s m n e = go (closed s m) refl
+  where
+    go : (c : Read) → closed s m ≡ c → (y ≡ x) × (closed s m ≡ Read.At n)
+    go Read.Bad h = let i = closing-none x s m (closed s m) refl h in let z : _≡_ {A = ℕ} 0 1 = cc in absurd (omega arith)
+    go (Read.At p) h =
+        let i = closing-got x s m (closed s m) refl p h in
+        let j : p ≡ n = cc in
+        (cc, h ∙ ap (λ k. Read.At k) j)
+
+-- at most 200 bytes
+pub limit-read : {A : Type 0} (at : ℕ) (o : Got A) (x : A) (n : ℕ) → limit at o ≡ got x n → (o ≡ got x n) × (leb n (at + 200) ≡ true)
+unfolding limit orElse
+limit-read at none x n e = let z : _≡_ {A = ℕ} 0 1 = cc in absurd (omega arith)
+limit-read at (got y k) x n e = go (leb k (at + 200)) refl e
+  where
+    go : (b : Bool) → leb k (at + 200) ≡ b → orElse b (got y) nothing k ≡ got x n → (got y k ≡ got x n) × (leb n (at + 200) ≡ true)
+    go true h e = let i : n ≡ k = cc in (e, ap (λ m. leb m (at + 200)) i ∙ h)
+    go false h e = let z : _≡_ {A = ℕ} 0 1 = cc in absurd (omega arith)
 
 -- an argument and the rest
 pub arg-read : (x : ℕ → Got Expr) (s : List ℕ) (at b : ℕ) → b ≡ getD s at 0 → (left : ℕ) → (left ≡ 0 → ⊥) → b ≡ 32 → (es : Exprs) (n : ℕ) → readArgs x left s at ≡ got es n

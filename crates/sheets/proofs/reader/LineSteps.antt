@@ -12,7 +12,7 @@ use Rattle.sheets.specs.Trees.{Line, let-line, show-line}
 use Rattle.sheets.specs.Grammar.{IsWord}
 use Rattle.sheets.specs.code.reader.Codes.{letter, wordChar, codeFrom, codeOf}
 use Rattle.sheets.specs.code.reader.Reader.{Got, none, got, _then_, charsIf, chars, wordIf, readWord, readExpr, orElse, nothing, opening, spaced, limit, more, first, one, fromRows, readRows, Begun, let-word, whole, lineRows, readBegun, rest, readLine}
-use Rattle.sheets.specs.code.reader.Views.{place, coded, closed, shortEnd, nameAt, namedAt, lineHead}
+use Rattle.sheets.specs.code.reader.Views.{place, coded, closed, shortEnd, nameAt, namedAt, behind, lineHead}
 use Rattle.sheets.proofs.reader.ReaderLaws.{then-got, mapped}
 use Rattle.sheets.proofs.reader.Spans.{Holds, holds-none, holds-then, holds-at, holds-or, holds-map, spans-end}
 use Rattle.sheets.proofs.reader.TokenLaws.{WordAt, word-sound, word-spans}
@@ -88,6 +88,20 @@ head-says s at r er q h = subst (Says s at (readLine s at)) (sym er ∙ h) (go (
     go (got (let-word w) n) t = (w, t, refl, refl)
     go (got (whole (show-line w)) n) t = (w, t, refl, refl)
     go (got (whole (let-line w x)) n) t = absurd t
+
+-- of a show, where its word stands too
+pub show-says : (s : List ℕ) (at : ℕ) (r : LineHead) → r ≡ lineHead at (readBegun s at) → (y : NameAt) (n : ℕ) → r ≡ LineHead.Show y n → (w : Word) × (y ≡ nameAt w (behind "show" at)) × (readLine s at ≡ limit at (got (show-line w) n))
+unfolding readLine lineHead rest _then_
+show-says s at r er y n h = go (readBegun s at) (sym er ∙ h)
+  where
+    go : (o : Got Begun) → lineHead at o ≡ LineHead.Show y n → (w : Word) × (y ≡ nameAt w (behind "show" at)) × (limit at (o then rest s) ≡ limit at (got (show-line w) n))
+    go none e = let z : _≡_ {A = ℕ} 0 1 = cc in absurd (omega arith)
+    go (got (let-word w) m) e = let z : _≡_ {A = ℕ} 0 1 = cc in absurd (omega arith)
+    go (got (whole (show-line w)) m) e =
+        let i : y ≡ nameAt w (behind "show" at) = cc in
+        let j : m ≡ n = cc in
+        (w, i, ap (λ k. limit at (got (show-line w) k)) j)
+    go (got (whole (let-line w x)) m) e = let z : _≡_ {A = ℕ} 0 1 = cc in absurd (omega arith)
 
 -- ---- a line that a word opens
 module _ (s : List ℕ) (at : ℕ) (r : WordRead) (er : r ≡ coded (opening s at)) where

@@ -6,7 +6,6 @@ use mathlib.Core.Bool.{Bool, true, false, _&&_, _||_, not}
 use mathlib.Core.List.{List, [], _∷_, _++_, append-nil}
 use mathlib.Core.Option.{Option, some}
 use lib.Dec.{T, eqb, eqb→eq, eqb-refl}
-use lib.ListN.{getD}
 use mir.Facts.{and-yes, yes-and}
 use mir.Val.{hasKey}
 use types.Run.{OneOf, hit, miss}
@@ -17,17 +16,14 @@ use Rattle.sheets.specs.code.reader.Codes.{codeOf}
 use Rattle.sheets.specs.Kinds.{Kind, number, angle, len, geocentric, geodetic, vector, frame, place, kindCode, sameKind, sameKinds}
 use Rattle.sheets.specs.Table.{Row, when, table}
 use Rattle.sheets.specs.Lookup.{sameWord, opens, KindRow, kindRows, search, findKind}
-use Rattle.sheets.specs.code.rows.KindCodes.{keyFrom, keyOf, kindOr255, searchNum, RowKind, Missed, rowCodes}
+use Rattle.sheets.specs.code.rows.KindCodes.{kindAt, keyFrom, keyOf, kindOr255, searchNum, RowKind, Missed, rowCodes}
 use Rattle.sheets.proofs.reader.CodeLaws.{code-same}
 use Rattle.sheets.proofs.check.KindExact.{same-word, same-kinds}
 use Rattle.sheets.proofs.rows.WordLaws.{spelt, spelt-is, missed-none}
 
 -- ---- kinds by their key
 
-abbrev kindAt : ℕ → Kind
-kindAt n = getD (number ∷ angle ∷ len ∷ geocentric ∷ geodetic ∷ vector Enu ∷ vector Ned ∷ vector Body ∷ vector Wan ∷ frame Enu ∷ frame Ned ∷ frame Body ∷ frame Wan ∷ []) n number
-
-kind-at : (k : Kind) → (kindAt (kindCode k) ≡ k) × (kindCode k < 13)
+pub kind-at : (k : Kind) → (kindAt (kindCode k) ≡ k) × (kindCode k < 13)
 kind-at number = (refl, omega arith)
 kind-at angle = (refl, omega arith)
 kind-at len = (refl, omega arith)
@@ -149,10 +145,10 @@ row-kind c k r h w hw e ks q = h .is ∙ ap (λ x. searchNum (kindRows table) x 
 pub kind-arm : (v : Word) (c k r : ℕ) → c ≡ codeOf v → r ≡ searchNum (kindRows table) (codeOf v) k → RowKind c k r
 kind-arm v c k r e h = record { is = h ∙ ap (λ x. searchNum (kindRows table) x k) (sym e) }
 
--- each row's code is among these or those
-abbrev allAmong : List KindRow → List ℕ → List ℕ → Bool
-allAmong [] js ks = true
-allAmong (p ∷ ps) js ks = (hasKey js (codeOf (p .word)) || hasKey ks (codeOf (p .word))) && allAmong ps js ks
+-- each row's number is among these or those
+abbrev pub allAmong : (KindRow → ℕ) → List KindRow → List ℕ → List ℕ → Bool
+allAmong g [] js ks = true
+allAmong g (p ∷ ps) js ks = (hasKey js (g p) || hasKey ks (g p)) && allAmong g ps js ks
 
 missed-both : (js ks : List ℕ) (x : ℕ) → T (hasKey js x || hasKey ks x) → Missed js x → Missed ks x → ⊥
 missed-both js ks x t m n = go (hasKey js x) refl t
@@ -161,20 +157,30 @@ missed-both js ks x t m n = go (hasKey js x) refl t
     go true h u = missed-none js x (subst T (sym h) tt) m
     go false h u = missed-none ks x u n
 
-no-number : (ps : List KindRow) (js ks : List ℕ) → T (allAmong ps js ks) → (c k : ℕ) → Missed js c → Missed ks c → 255 ≡ searchNum ps c k
+-- a row with the code c and the key k would have the number x
+no-number : (g : KindRow → ℕ) (js ks : List ℕ) (c k x : ℕ) → ((p : KindRow) → T (eqb (codeOf (p .word)) c && eqb (keyOf (p .takes)) k) → g p ≡ x) → Missed js x → Missed ks x
+    → (ps : List KindRow) → T (allAmong g ps js ks) → 255 ≡ searchNum ps c k
 unfolding searchNum
-no-number [] js ks t c k m n = refl
-no-number (p ∷ ps) js ks t c k m n =
-    let h = and-yes (hasKey js (codeOf (p .word)) || hasKey ks (codeOf (p .word))) (allAmong ps js ks) t in
-    go (eqb (codeOf (p .word)) c) (λ u. missed-both js ks c (subst (λ x. T (hasKey js x || hasKey ks x)) (eqb→eq (codeOf (p .word)) c u) (h .0)) m n) (no-number ps js ks (h .1) c k m n)
+no-number g js ks c k x s m n [] t = refl
+no-number g js ks c k x s m n (p ∷ ps) t =
+    let h = and-yes (hasKey js (g p) || hasKey ks (g p)) (allAmong g ps js ks) t in
+    go (eqb (codeOf (p .word)) c && eqb (keyOf (p .takes)) k) (λ u. missed-both js ks x (subst (λ y. T (hasKey js y || hasKey ks y)) (s p u) (h .0)) m n) (no-number g js ks c k x s m n ps (h .1))
   where
-    go : (b : Bool) → (T b → ⊥) → 255 ≡ searchNum ps c k → 255 ≡ when (b && eqb (keyOf (p .takes)) k) (kindCode (p .gives)) (searchNum ps c k)
+    go : (b : Bool) → (T b → ⊥) → 255 ≡ searchNum ps c k → 255 ≡ when b (kindCode (p .gives)) (searchNum ps c k)
     go true f e = absurd (f tt)
     go false f e = e
 
--- the last arm
-pub no-kind : (js ks : List ℕ) → T (allAmong (kindRows table) js ks) → (c k : ℕ) → Missed js c → Missed ks c → RowKind c k 255
-no-kind js ks t c k m n = record { is = no-number (kindRows table) js ks t c k m n }
+-- the last arm: no row has the code
+pub no-kind : (js ks : List ℕ) → T (allAmong (λ p. codeOf (p .word)) (kindRows table) js ks) → (c k : ℕ) → Missed js c → Missed ks c → RowKind c k 255
+no-kind js ks t c k m n =
+    let same : ((p : KindRow) → T (eqb (codeOf (p .word)) c && eqb (keyOf (p .takes)) k) → codeOf (p .word) ≡ c) = λ p u. eqb→eq (codeOf (p .word)) c (and-yes (eqb (codeOf (p .word)) c) (eqb (keyOf (p .takes)) k) u .0) in
+    record { is = no-number (λ p. codeOf (p .word)) js ks c k c same m n (kindRows table) t }
+
+-- no row has the key
+pub no-key : (js ks : List ℕ) → T (allAmong (λ p. keyOf (p .takes)) (kindRows table) js ks) → (c k : ℕ) → Missed js k → Missed ks k → RowKind c k 255
+no-key js ks t c k m n =
+    let same : ((p : KindRow) → T (eqb (codeOf (p .word)) c && eqb (keyOf (p .takes)) k) → keyOf (p .takes) ≡ k) = λ p u. eqb→eq (keyOf (p .takes)) k (and-yes (eqb (codeOf (p .word)) c) (eqb (keyOf (p .takes)) k) u .1) in
+    record { is = no-number (λ p. keyOf (p .takes)) js ks c k k same m n (kindRows table) t }
 
 -- ---- the operators' words
 

@@ -1,110 +1,136 @@
 -- The evaluator, a step at a time: what follows from each answer that the code met on the way. Assumes nothing.
-use Prim.Native.Nat.{ℕ, suc, _+_, _-_, _/_, _<_, _≤_}
+use Prim.Native.Nat.{ℕ, _+_, _*_, _<_, _≤_}
 use native.Mathlib.Omega.{arith}
-use mathlib.Core.Path.{_≡_, refl, sym, ap, _∙_}
-use mathlib.Core.Bool.{true, false}
+use mathlib.Core.Path.{_≡_, refl, sym, ap, subst, _∙_}
 use mathlib.Core.Option.{Option, none, some}
-use mathlib.Core.List.{List, [], _∷_, _++_}
-use lib.ListN.{getD, length, take, set}
-use lib.Seq.{take-suc-set}
+use mathlib.Core.List.{List, []}
+use lib.Dec.{eqb}
+use lib.ListN.{getD, length, set}
 use lib.Ieee.{Float}
+use borrow.Author.Tests.{eq-eqb, ne-eqb, le-leb, lt-leb}
+use Rattle.numbers.specs.Ops.{num}
 use Rattle.frames.specs.declared.ellipsoid.Ellipsoid.{Ellipsoid}
 use Rattle.sheets.specs.declared.rows.value.Value.{Value}
 use Rattle.sheets.specs.declared.rows.value.Value.the-variants.{Number}
 use Rattle.sheets.specs.declared.reader.bytes.WordRead.{WordRead}
 use Rattle.sheets.specs.declared.reader.num.DoubleRead.{DoubleRead}
 use Rattle.sheets.specs.declared.reader.expr.Read.{Read}
+use Rattle.sheets.specs.declared.run.known.Found.{Found}
+use Rattle.sheets.specs.declared.run.eval.Evaluated.{Evaluated}
 use Rattle.sheets.specs.Text.{Word}
 use Rattle.sheets.specs.Trees.{word-expr, num-expr}
-use Rattle.sheets.specs.Limits.{inLimit}
+use Rattle.sheets.specs.Grammar.{IsWord}
+use Rattle.sheets.specs.Kinds.{kindOf}
+use Rattle.sheets.specs.Table.{when}
 use Rattle.sheets.specs.Names.{Known, lookup}
+use Rattle.sheets.specs.Machine.{met, meet, eval}
+use Rattle.sheets.specs.code.reader.Codes.{codeOf}
 use Rattle.sheets.specs.code.reader.Reader.{none as noGot, got, _then_, readWord, readNum, orNum, readLeaf, readExpr}
 use Rattle.sheets.specs.code.reader.Views.{place, coded, doubled}
-use Rattle.sheets.specs.Machine.{met, meet, eval}
+use Rattle.sheets.specs.code.check.Newest as Search
+use Rattle.sheets.specs.code.run.Slots.{emptySlot}
+use Rattle.sheets.specs.code.run.Floats.{floatAt, valueAt, Copied}
+use Rattle.sheets.specs.code.run.Known.{foundOf, readingIndex, readingFound, wordFound, Placed, Ready}
+use Rattle.sheets.specs.code.run.Evaluating.{Answers, testedAt, KnownWith, LeafWith, EvalsWith}
 use Rattle.sheets.proofs.reader.ReaderLaws.{expr-leaf}
 use Rattle.sheets.proofs.reader.Viewed.{coded-none, coded-got, doubled-none, doubled-got}
 use Rattle.sheets.proofs.reader.Inverse.{not-read}
-use Rattle.sheets.specs.code.run.Operands.{operand, foundOf}
-use Rattle.sheets.specs.code.run.Evaluating.{evaluated, EvalsWith, LeafWith}
-use Rattle.sheets.specs.declared.run.operands.Found.{Found}
-use Rattle.sheets.specs.declared.run.eval.Evaluated.{Evaluated}
+use Rattle.sheets.proofs.reader.Slices.{word-is}
+use Rattle.sheets.proofs.run.FloatLaws.{kept-set, same-value, lies-number}
+use Rattle.sheets.proofs.run.ListedLaws.{placed-few, placed-slot, listed-is}
+use Rattle.sheets.proofs.run.LaidSteps.{answers-tested, answers-none}
 
--- ---- the test of refusal 7
+-- ---- a known word
 
-pub tested-in : (x : Value) (n : ℕ) → inLimit x ≡ true → Evaluated.Is x n ≡ evaluated (met x) n
-unfolding evaluated
-tested-in x n h = rw h refl
-
-pub tested-out : (x : Value) (n : ℕ) → inLimit x ≡ false → Evaluated.Stops 7 ≡ evaluated (met x) n
-unfolding evaluated
-tested-out x n h = rw h refl
-
--- ---- a word or a NUM
-
-pub found-some : (o : Option Value) (v : Value) → foundOf o ≡ Found.Value v → o ≡ some v
+found-some : (o : Option Value) (v : Value) → foundOf o ≡ Found.Value v → o ≡ some v
 found-some none v e = let z : _≡_ {A = ℕ} 0 1 = cc in absurd (omega arith)
 found-some (some x) v e = let i : x ≡ v = cc in ap some i
 
-pub found-none : (o : Option Value) → foundOf o ≡ Found.Unknown → o ≡ none
+found-none : (o : Option Value) → foundOf o ≡ Found.Unknown → o ≡ none
 found-none none e = refl
 found-none (some x) e = let z : _≡_ {A = ℕ} 0 1 = cc in absurd (omega arith)
 
-module _ (s : List ℕ) (at : ℕ) (ks : List ℕ) (fs : List (List Float)) (r : WordRead) (er : r ≡ coded (readWord s at)) where
-  module _ (k m : ℕ) (h : r ≡ WordRead.Is k m) (f : Found) (ef : f ≡ operand ks fs (at / 2)) where
-    -- the word, and what it stands for
-    leaf-word : (q : Evaluated) → ((ps : Known Value) (w : Word) → f ≡ foundOf (lookup w ps) → q ≡ evaluated (meet (lookup w ps)) m) → LeafWith s at ks fs q
-    unfolding readLeaf orNum eval
-    leaf-word q g = record {
-      is = λ ps rd p ep sp e x n k.
-          let (w, ew, ek) = coded-got (readWord s at) r er _ m h in
-          let i : got (word-expr w) m ≡ got x n = ap (λ o. orNum o (readNum s at)) (sym ew) ∙ k in
-          let ix : x ≡ word-expr w = cc in
-          let im : n ≡ m = cc in
-          let look : f ≡ foundOf (lookup w ps) = ef ∙ ap (λ a. operand ks fs (a / 2)) ep ∙ rd .is p sp w m (ap (readWord s) (sym ep) ∙ ew) in
-          rw (ix, im) (g ps w look);
+-- a value laid at a place and tested there answers what was met
+met-number : (x : Float) (f : List Float) (top n : ℕ) → length f ≡ 2940 → top + 21 ≤ 2940 → (q : Evaluated) → q ≡ testedAt 0 (set f top x) top n → Answers (met (Number x)) n top f q (set f top x)
+met-number x f top n lf room q eq = answers-tested top n f (set f top x) [] (Number x) (lies-number f lf top room x) (kept-set f top x) 0 refl q eq
+
+module _ (code n : ℕ) (words kinds newest : List ℕ) (f : List Float) (top : ℕ) (room : top + 21 ≤ 2940) (j : ℕ) (pj : Search.Placed words newest code j) where
+  -- by the word's place
+  by-found : (ps : Known Value) (r : Ready ps words kinds newest f top) (w : Word) → IsWord w → code ≡ codeOf w
+      → foundOf (lookup w ps) ≡ when (eqb j 0) (readingFound code (r .readings)) (Found.Value (getD (r .slots) j emptySlot .value))
+  by-found ps r w iw ec = r .tabled .is w iw ∙ ap (wordFound (r .slots) (r .readings) (r .n)) (sym ec) ∙ sym (listed-is (r .slots) (r .readings) words kinds newest f (r .n) (r .listed) code j pj)
+
+  module _ (z : j ≡ 0) (i : ℕ) (ei : i ≡ readingIndex code) where
+    pub known-none : 16 ≤ i → KnownWith code n words kinds newest f top Evaluated.Sticks f
+    unfolding readingFound
+    known-none h = record {
+      is = λ ps r w iw ec.
+          let u : foundOf (lookup w ps) ≡ Found.Unknown = by-found ps r w iw ec ∙ rw (eq-eqb j 0 z, ← ei, le-leb 16 i h) refl in
+          subst (λ o. Answers (meet o) n top f Evaluated.Sticks f) (sym (found-none (lookup w ps) u)) (answers-none top n f []);
     }
 
-    pub leaf-known : (v : Value) → f ≡ Found.Value v → (q : Evaluated) → q ≡ evaluated (met v) m → LeafWith s at ks fs q
-    leaf-known v ev q eq = leaf-word q (λ ps w look. eq ∙ ap (λ o. evaluated (meet o) m) (sym (found-some (lookup w ps) v (sym look ∙ ev))))
+    pub known-reading : i < 16 → (q : Evaluated) → q ≡ testedAt 0 (set f top (floatAt f i)) top n → KnownWith code n words kinds newest f top q (set f top (floatAt f i))
+    unfolding readingFound
+    known-reading h q eq = record {
+      is = λ ps r w iw ec.
+          let u : foundOf (lookup w ps) ≡ Found.Value (Number (floatAt f i)) = by-found ps r w iw ec ∙ rw (eq-eqb j 0 z, ← ei, lt-leb 16 i h) (ap (λ x. Found.Value (Number x)) (sym (r .listed .reading i h))) in
+          subst (λ o. Answers (meet o) n top f q (set f top (floatAt f i))) (sym (found-some (lookup w ps) _ u)) (met-number (floatAt f i) f top n (r .listed .sizes .2) room q eq);
+    }
 
-    pub leaf-unknown : f ≡ Found.Unknown → LeafWith s at ks fs Evaluated.Sticks
-    unfolding evaluated
-    leaf-unknown ev = leaf-word _ (λ ps w look. ap (λ o. evaluated (meet o) m) (sym (found-none (lookup w ps) (sym look ∙ ev))))
+  pub known-name : (j ≡ 0 → ⊥) → (k : ℕ) → k ≡ getD kinds j 0 → (g : List Float) → Copied f (21 * j) top g → (q : Evaluated) → q ≡ testedAt k g top n → KnownWith code n words kinds newest f top q g
+  known-name z k ek g cp q eq = record {
+    is = λ ps r w iw ec.
+        let u : foundOf (lookup w ps) ≡ Found.Value (getD (r .slots) j emptySlot .value) = by-found ps r w iw ec ∙ rw (ne-eqb j 0 z) refl in
+        let few = placed-few (r .slots) (r .readings) words kinds newest f (r .n) (r .listed) code j pj in
+        let p = placed-slot (r .slots) (r .readings) words kinds newest f (r .n) (r .listed) j z few in
+        let v = getD (r .slots) j emptySlot .value in
+        let same : valueAt (kindOf v) g top ≡ valueAt (kindOf v) f (21 * j) = same-value (kindOf v) g f top (21 * j) (λ m l. cp .is (r .listed .sizes .2) (omega (arith, few, r .below)) m l) in
+        subst (λ o. Answers (meet o) n top f q g) (sym (found-some (lookup w ps) v u)) (answers-tested top n f g [] v (record { is = same ∙ p .lies .is }) (cp .kept) k (ek ∙ p .kind) q eq);
+  }
+
+-- ---- a word or a NUM
+
+module _ (s : List ℕ) (at : ℕ) (words kinds newest : List ℕ) (f : List Float) (top : ℕ) (r : WordRead) (er : r ≡ coded (readWord s at)) where
+  pub leaf-word : (k m : ℕ) → r ≡ WordRead.Is k m → (q : Evaluated) (g : List Float) → KnownWith k m words kinds newest f top q g → LeafWith s at words kinds newest f top q g
+  unfolding readLeaf orNum eval
+  leaf-word k m h q g hq = record {
+    is = λ ps rd e x n k′.
+        let (w, ew, ek) = coded-got (readWord s at) r er k m h in
+        let i : got (word-expr w) m ≡ got x n = ap (λ o. orNum o (readNum s at)) (sym ew) ∙ k′ in
+        let ix : x ≡ word-expr w = cc in
+        let im : n ≡ m = cc in
+        rw (ix, im) (hq .is ps rd w (word-is s at w m ew) ek);
+  }
 
   module _ (h : r ≡ WordRead.Not) (v : DoubleRead) (ev : v ≡ doubled (readNum s at)) where
     leaf-is : readLeaf s at ≡ readNum s at then (λ x n. got (num-expr x) n)
     unfolding readLeaf orNum
     leaf-is = ap (λ o. orNum o (readNum s at)) (coded-none (readWord s at) r er h)
 
-    pub leaf-num : (y : Float) (m : ℕ) → v ≡ DoubleRead.Is y m → (q : Evaluated) → q ≡ evaluated (met (Number y)) m → LeafWith s at ks fs q
+    pub leaf-num : top + 21 ≤ 2940 → (y : Float) (m : ℕ) → v ≡ DoubleRead.Is y m → (q : Evaluated) → q ≡ testedAt 0 (set f top y) top m → LeafWith s at words kinds newest f top q (set f top y)
     unfolding _then_ eval
-    leaf-num y m i q eq = record {
-      is = λ ps rd p ep sp e x n k.
+    leaf-num room y m i q eq = record {
+      is = λ ps rd e x n k.
           let (t, et, ey) = doubled-got (readNum s at) v ev y m i in
           let j : got (num-expr t) m ≡ got x n = ap (λ o. o then (λ x n. got (num-expr x) n)) (sym et) ∙ sym leaf-is ∙ k in
           let ix : x ≡ num-expr t = cc in
           let im : n ≡ m = cc in
-          rw (ix, im, ← ey) eq;
+          rw (ix, im, ← ey) (met-number y f top m (rd .listed .sizes .2) room q eq);
     }
 
-    pub leaf-none : (q : Evaluated) → v ≡ DoubleRead.Not → LeafWith s at ks fs q
+    pub leaf-none : v ≡ DoubleRead.Not → (q : Evaluated) (g : List Float) → LeafWith s at words kinds newest f top q g
     unfolding _then_
-    leaf-none q i = record {
-      is = λ ps rd p ep sp e x n k.
+    leaf-none i q g = record {
+      is = λ ps rd e x n k.
           let j : noGot ≡ got x n = ap (λ o. o then (λ x n. got (num-expr x) n)) (sym (doubled-none (readNum s at) v ev i)) ∙ sym leaf-is ∙ k in
           let z : _≡_ {A = ℕ} 0 1 = cc in absurd (omega arith);
     }
 
 -- ---- an expression
 
-pub evals-bad : (s : List ℕ) (at depth : ℕ) (e : Ellipsoid) (ks : List ℕ) (fs : List (List Float)) (r : Evaluated) → Read.Bad ≡ place (readExpr depth s at) → EvalsWith s at depth e ks fs r
-evals-bad s at depth e ks fs r h = record { is = λ ps rd p ep sp. record { is = λ x n g. not-read (readExpr depth s at) x n h g } }
+module _ (s : List ℕ) (at depth : ℕ) (e : Ellipsoid) (words kinds newest : List ℕ) (f : List Float) (top : ℕ) (r : Evaluated) (g : List Float) where
+  pub evals-bad : Read.Bad ≡ place (readExpr depth s at) → EvalsWith s at depth e words kinds newest f top r g
+  evals-bad h = record { is = λ ps rd. record { is = λ x n k. not-read (readExpr depth s at) x n h k } }
 
-pub evals-leaf : (s : List ℕ) (at b : ℕ) → b ≡ getD s at 0 → (depth : ℕ) (e : Ellipsoid) (ks : List ℕ) (fs : List (List Float)) → (b ≡ 40 → ⊥) → (r : Evaluated) → LeafWith s at ks fs r → EvalsWith s at depth e ks fs r
-evals-leaf s at b eb depth e ks fs h r l = record { is = λ ps rd p ep sp. record { is = λ x n g. l .is ps rd p ep sp e x n (sym (expr-leaf s at b eb depth h) ∙ g) } }
-
--- one argument more of five
-pub push-more : (a : List Value) (v : Value) (left : ℕ) → length a ≡ 5 → 0 < left → left ≤ 5 → take (5 - (left - 1)) (set a (5 - left) v) ≡ take (5 - left) a ++ (v ∷ [])
-push-more a v left h low high =
-    let e : 5 - (left - 1) ≡ suc (5 - left) = omega arith in
-    ap (λ k. take k (set a (5 - left) v)) e ∙ take-suc-set a (5 - left) v (omega arith)
+  pub evals-leaf : (b : ℕ) → b ≡ getD s at 0 → (b ≡ 40 → ⊥) → LeafWith s at words kinds newest f top r g → EvalsWith s at depth e words kinds newest f top r g
+  evals-leaf b eb h l = record { is = λ ps rd. record { is = λ x n k. l .is ps rd e x n (sym (expr-leaf s at b eb depth h) ∙ k) } }

@@ -24,13 +24,12 @@ use Rattle.sheets.specs.Names.{Known, lookup, orElse, readingWords, give
 use Rattle.sheets.specs.Machine.{readings}
 use Rattle.sheets.proofs.check.ReadingLaws.{codesOf, AreWords, readingCodes, readings-are}
 use Rattle.sheets.proofs.rows.KindRowLaws.{words-agree}
-use Rattle.sheets.specs.code.run.Operands.{foundOf}
-use Rattle.sheets.specs.code.run.Running.{wordFound, indexIn, readingIndex, readingFound, Tabled}
-use Rattle.sheets.specs.declared.run.operands.Found.{Found}
+use Rattle.sheets.specs.code.run.Known.{foundOf, wordFound, indexIn, readingIndex, readingFound, Tabled}
+use Rattle.sheets.specs.declared.run.known.Found.{Found}
 
 -- ---- one reading
 
-getD-inside : (rs : List Float) (i : ℕ) (a b : Float) → i < length rs → getD rs i a ≡ getD rs i b
+pub getD-inside : (rs : List Float) (i : ℕ) (a b : Float) → i < length rs → getD rs i a ≡ getD rs i b
 getD-inside [] i a b h = absurd (omega arith)
 getD-inside (r ∷ rs) zero a b h = refl
 getD-inside (r ∷ rs) (suc i) a b h = getD-inside rs i a b (omega arith)

@@ -8,12 +8,10 @@ use mathlib.Core.List.{List, [], _∷_, _++_, append-assoc}
 use borrow.Author.Tests.{le-leb, leb-true, not-true, not-false}
 use lib.Dec.{leb}
 use lib.ListN.{length, length-append}
-use Rattle.frames.specs.declared.orientation.Orientation.{Orientation}
-use Rattle.frames.specs.declared.orientation.Orientation.the-variants.{Enu, Ned, Body, Wan}
 use Rattle.sheets.specs.declared.rows.value.Value.{Value}
 use Rattle.sheets.specs.Text.{Word}
 use Rattle.sheets.specs.code.reader.Reader.{got, readWord}
-use Rattle.sheets.specs.Kinds.{kindOf, kindName, orientationName}
+use Rattle.sheets.specs.Kinds.{kindOf, kindName}
 use Rattle.sheets.specs.Output.{fields, fieldsText, outputLine}
 use Rattle.sheets.specs.Answers.{laid}
 use Rattle.sheets.specs.code.run.Writing.{writes, Written, part, valueText, fitting, room, lineIf}
@@ -47,12 +45,6 @@ room-told ok s from end d at e h =
     (p, q, omega (arith, i, m), omega (arith, i, m, part-length s from end q))
 
 -- ---- a line in its parts
-
-pub orientation-length : (o : Orientation) → length (orientationName o) ≤ 4
-orientation-length Enu = omega arith
-orientation-length Ned = omega arith
-orientation-length Body = omega arith
-orientation-length Wan = omega arith
 
 pub value-length : (x : Value) → length (valueText x) ≤ 209
 unfolding valueText

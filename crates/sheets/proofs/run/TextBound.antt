@@ -22,7 +22,7 @@ use Rattle.sheets.specs.Machine.{Out, goes, stops, sticks, after, then, 
 
 -- ---- an output line
 
-pub hex-length : (k b : ℕ) (t : List ℕ) → length (hex k b t) ≡ k + length t
+hex-length : (k b : ℕ) (t : List ℕ) → length (hex k b t) ≡ k + length t
 hex-length zero b t = omega arith
 hex-length (suc k) b t = hex-length k (b / 16) (hexDigit (b % 16) ∷ t) ∙ omega arith
 

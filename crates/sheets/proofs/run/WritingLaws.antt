@@ -1,17 +1,16 @@
 -- Laws of writing bytes into a buffer one by one. Assumes nothing.
-use Prim.Native.Nat.{ℕ, zero, suc, _+_, _-_, _/_, _%_, _<_, _≤_}
+use Prim.Native.Nat.{ℕ, suc, _+_, _-_, _<_, _≤_}
 use native.Mathlib.Nat.{add-zero}
-use native.Mathlib.Numerals.{add-one, sub-one}
+use native.Mathlib.Numerals.{add-one}
 use native.Mathlib.Omega.{arith}
 use mathlib.Core.Path.{_≡_, refl, sym, ap, _∙_, subst}
 use mathlib.Core.List.{List, [], _∷_, _++_, append-assoc}
 use lib.ListN.{length, getD, set, length-set, length-append, length-drop, take, drop}
-use lib.Seq.{sets, sets-eq, set-comm, take-append-seam, drop-append-add, drop-drop, drop-cons, length-take-le}
+use lib.Seq.{sets, sets-eq, take-append-seam, drop-append-add, drop-drop, drop-cons, length-take-le}
 use lib.Ieee.{Float, binary64, toBits}
 use Rattle.sheets.specs.Answers.{laid}
-use Rattle.sheets.specs.Output.{hexDigit, hex, field, fieldsText}
+use Rattle.sheets.specs.Output.{hex, field, fieldsText}
 use Rattle.sheets.specs.code.run.Writing.{writes, Written, part}
-use Rattle.sheets.proofs.run.TextBound.{hex-length}
 
 -- ---- writes
 
@@ -33,12 +32,6 @@ writes-sets (x ∷ a) d at = rw add-one (writes-sets a (set d at x) (suc at))
 -- the text from the place on, and all else as it was
 pub writes-is : (a d : List ℕ) (at : ℕ) → at + length a ≤ length d → writes d at a ≡ take at d ++ a ++ drop (at + length a) d
 writes-is a d at h = writes-sets a d at ∙ sets-eq a d at h
-
--- a byte stored past a text
-pub writes-set : (a d : List ℕ) (at i x : ℕ) → at + length a ≤ i → set (writes d at a) i x ≡ writes (set d i x) at a
-unfolding writes
-writes-set [] d at i x h = refl
-writes-set (y ∷ a) d at i x h = writes-set a (set d at y) (at + 1) i x (omega arith) ∙ ap (λ e. writes e (at + 1) a) (set-comm d at i y x (λ e. absurd (omega arith)))
 
 -- ---- a text that grows at its end
 
@@ -74,37 +67,6 @@ fields-then xs ys p q = rw (fields-append xs ys) (written-then (fieldsText xs) (
 -- a space and the digits of a double's bits
 pub field-written : (x : Float) (b : ℕ) → b ≡ toBits binary64 x → {d e f : List ℕ} {at m r : ℕ} → Written d at (32 ∷ []) e m → Written e m (hex 16 b []) f r → Written d at (fieldsText (x ∷ [])) f r
 field-written x b h {d} {e} {f} {at} {m} {r} p q = subst (λ k. Written d at (32 ∷ hex 16 k []) f r) h (written-then (32 ∷ []) (hex 16 b []) p q)
-
--- ---- the digits, from the last one
-
-hex-append : (k n : ℕ) (t : List ℕ) → hex k n t ≡ hex k n [] ++ t
-hex-append zero n t = refl
-hex-append (suc k) n t =
-    hex-append k (n / 16) (hexDigit (n % 16) ∷ t)
-    ∙ sym (ap (λ x. x ++ t) (hex-append k (n / 16) (hexDigit (n % 16) ∷ [])) ∙ append-assoc (hex k (n / 16) []) (hexDigit (n % 16) ∷ []) t)
-
--- the last of k + 1 digits is stored first
-hex-last : (k n : ℕ) (d : List ℕ) (at : ℕ) → writes d at (hex (suc k) n []) ≡ writes (set d (at + k) (hexDigit (n % 16))) at (hex k (n / 16) [])
-unfolding writes
-hex-last k n d at =
-    let y = hexDigit (n % 16) in
-    let h = hex k (n / 16) [] in
-    let l : length h ≡ k = hex-length k (n / 16) [] ∙ add-zero k in
-    ap (writes d at) (hex-append k (n / 16) (y ∷ []))
-    ∙ writes-append h (y ∷ []) d at
-    ∙ ap (λ i. set (writes d at h) (at + i) y) l
-    ∙ writes-set h d at (at + k) y (omega (arith, l))
-
--- one turn of the loop over the digits
-pub hex-turn : (o d : List ℕ) (at left rest x : ℕ) (a : List ℕ) → 0 < left → x ≡ hexDigit (rest % 16)
-    → writes o at (hex left rest []) ≡ writes d at a → writes (set o (at + (left - 1)) x) at (hex (left - 1) (rest / 16) []) ≡ writes d at a
-hex-turn o d at zero rest x a pos e inv = absurd (omega arith)
-hex-turn o d at (suc k) rest x a pos e inv = rw (e, sub-one) (sym (hex-last k rest o at) ∙ inv)
-
-pub hex-written : (o d : List ℕ) (at left rest n : ℕ) → left ≤ 0 → writes o at (hex left rest []) ≡ writes d at (hex 16 n []) → Written d at (hex 16 n []) o (at + 16)
-unfolding writes
-hex-written o d at zero rest n le inv = record { is = inv; end = ap (λ k. at + k) (sym (hex-length 16 n [])) }
-hex-written o d at (suc k) rest n le inv = absurd (omega arith)
 
 -- ---- the name, from the first byte
 

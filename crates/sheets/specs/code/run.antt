@@ -1,6 +1,8 @@
 -- What the functions of the run answer.
 pub mod Slots
-pub mod Operands
+pub mod Floats
+pub mod Known
 pub mod Evaluating
+pub mod Digits
 pub mod Writing
 pub mod Running

@@ -36,6 +36,13 @@ pub enum Aer {
     Not,
 }
 
+// The axis that an angle of a frame is about.
+pub enum Axis {
+    Z,
+    Y,
+    X,
+}
+
 // An answer of each kind but n, which no operator gives.
 pub fn gives_angle(x: Angle) -> Applied
     ensures { λ r. ⌜ r ≡ Applied.Value (Value.Radians x) ⌝ }

@@ -8,19 +8,19 @@ ghost use Rattle.sheets.specs.Limits.{between, near, allNear, inLimit};
 ghost use Rattle.sheets.specs.Table.{far};
 
 // A NaN lies in no range.
-fn is_within(m: f64, x: f64) -> bool
+pub(crate) fn is_within(m: f64, x: f64) -> bool
     ensures { λ r. ⌜ r ≡ between (Ieee.neg m) m x ⌝ }
 {
     if -m <= x { x <= m } else { false }
 }
 
-fn is_near(x: f64) -> bool
+pub(crate) fn is_near(x: f64) -> bool
     ensures { λ r. ⌜ r ≡ near x ⌝ }
 {
     is_within(100000000.0, x)
 }
 
-fn are_near(x: f64, y: f64, z: f64) -> bool
+pub(crate) fn are_near(x: f64, y: f64, z: f64) -> bool
     ensures { λ r. ⌜ r ≡ allNear x y z ⌝ }
 {
     if is_near(x) {

@@ -1,4 +1,5 @@
 // What the words of a sheet stand for, and the table of names.
+use crate::rows::args::place_of;
 use frames::frame::LocalFrame;
 use frames::positions::GeocentricPosition;
 use frames::positions::GeodeticPosition;
@@ -6,7 +7,8 @@ use frames::vector::LocalVector;
 use numbers::angle::Angle;
 use numbers::length::Length;
 ghost use mathlib.Core.Path.{_≡_};
-ghost use Rattle.sheets.specs.code.run.Slots.{noNames};
+ghost use Rattle.sheets.specs.Kinds.{kindOf, kindCode};
+ghost use Rattle.sheets.specs.code.run.Slots.{emptySlot};
 
 // A sheet value.
 pub enum Value {
@@ -25,13 +27,33 @@ pub struct Slot {
     pub value: Value,
 }
 
-// The table of names at the start: 96 slots, all empty and alike.
-pub fn no_names() -> [Slot; 96]
-    ensures { λ r. ⌜ r ≡ noNames ⌝ }
+// A place where no word stands.
+pub fn empty_slot() -> Slot
+    ensures { λ r. ⌜ r ≡ emptySlot ⌝ }
 {
-    let empty = Slot {
+    Slot {
         word: 0,
         value: Value::Number(0.0),
-    };
-    [empty; 96]
+    }
+}
+
+// The code of a value's kind.
+pub fn kind_of(v: Value) -> u8
+    ensures { λ r. ⌜ r ≡ kindCode (kindOf v) ⌝ }
+{
+    match v {
+        Value::Number(_) => 0,
+        Value::Radians(_) => 1,
+        Value::Metres(_) => 2,
+        Value::Geocentric(_) => 3,
+        Value::Geodetic(_) => 4,
+        Value::Vector(x) => {
+            let o = x.orientation;
+            5 + place_of(o)
+        }
+        Value::Frame(x) => {
+            let o = x.orientation;
+            9 + place_of(o)
+        }
+    }
 }

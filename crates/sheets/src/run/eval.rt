@@ -1,72 +1,80 @@
 // The evaluator: it calls itself with the bracket depth left falling. A value is tested where it is met, a bracket's after its row.
+// Values lie as floats: the readings from place 0 on, the value of the name at place j of `words` from 21 j on, and above the names, from `top` on, what is being worked out.
+// An expression's value is laid from its `top` on, and so are a bracket's arguments, each with room for a frame.
+use crate::check::newest::word_place;
 use crate::reader::bytes::WordRead;
 use crate::reader::bytes::byte;
 use crate::reader::bytes::word;
 use crate::reader::num::DoubleRead;
 use crate::reader::num::double;
-use crate::rows::args::Applied;
-use crate::rows::dispatch::apply;
-use crate::rows::limits::in_limit;
-use crate::rows::value::Value;
-use crate::run::operands::Found;
-use crate::run::operands::operand_at;
+use crate::run::apply::apply;
+use crate::run::floats::copy_floats;
+use crate::run::known::reading_index;
+use crate::run::laid::tested;
 use frames::ellipsoid::Ellipsoid;
-ghost use mathlib.Core.Path.{_≡_};
-ghost use mathlib.Core.List.{[]};
-ghost use lib.ListN.{take};
-ghost use Rattle.sheets.specs.Machine.{met};
-ghost use Rattle.sheets.specs.code.run.Evaluating.{evaluated, EvalsWith, LeafWith, RowHas, BracketWith};
+ghost use Prim.Native.Nat.{_+_, _*_, _≤_};
+ghost use Rattle.sheets.specs.code.run.Evaluating.{KnownWith, LeafWith, EvalsWith, BracketWith};
 
-// A value and the place after its expression; the number of the refusal that stops the machine, 7 or 8; or that the machine sticks.
+// The code of a value's kind and the place after its expression; the number of the refusal that stops the machine, 7 or 8; or that the machine sticks.
 pub enum Evaluated {
-    Is(Value, usize),
+    Is(u8, usize),
     Stops(u8),
     Sticks,
 }
 
-// The test of refusal 7.
-pub fn tested(v: Value, n: usize) -> Evaluated
-    ensures { λ r. ⌜ r ≡ evaluated (met v) n ⌝ }
+// The word with this code, which ends at a place.
+fn known(
+    code: u64,
+    end: usize,
+    words: &[u64; 96],
+    kinds: &[u8; 96],
+    newest: &[u8; 512],
+    floats: &mut [f64; 2940],
+    top: usize,
+) -> Evaluated
+    requires { ⌜ top + 21 ≤ 2940 ⌝ }
+    ensures { λ r. ⌜ KnownWith code end (now (words .entry)) (now (kinds .entry)) (now (newest .entry)) (now (floats .entry)) top r (now (floats .exit)) ⌝ }
 {
-    if in_limit(v) {
-        Evaluated::Is(v, n)
-    } else {
-        Evaluated::Stops(7)
+    let j = word_place(words, newest, code);
+    if j == 0 {
+        let i = reading_index(code);
+        if 16 <= i {
+            return Evaluated::Sticks;
+        }
+        floats[top] = floats[i];
+        return tested(0, floats, top, end);
     }
+    let kind = kinds[j];
+    copy_floats(floats, 21 * j, top);
+    tested(kind, floats, top, end)
 }
 
 // A word or a NUM.
-fn leaf(s: &[u8], at: usize, kinds: &[u8; 101], rows: &[[f64; 21]; 101]) -> Evaluated
-    ensures { λ r. ⌜ LeafWith (now (s .entry)) at (now (kinds .entry)) (now (rows .entry)) r ⌝ }
+fn leaf(
+    s: &[u8],
+    at: usize,
+    words: &[u64; 96],
+    kinds: &[u8; 96],
+    newest: &[u8; 512],
+    floats: &mut [f64; 2940],
+    top: usize,
+) -> Evaluated
+    requires { ⌜ top + 21 ≤ 2940 ⌝ }
+    ensures { λ r. ⌜ LeafWith (now (s .entry)) at (now (words .entry)) (now (kinds .entry)) (now (newest .entry)) (now (floats .entry)) top r (now (floats .exit)) ⌝ }
 {
     let w = word(s, at);
     match w {
-        WordRead::Is(_, end) => {
-            let f = operand_at(kinds, rows, at / 2);
-            match f {
-                Found::Value(v) => tested(v, end),
-                Found::Unknown => Evaluated::Sticks,
-            }
-        }
+        WordRead::Is(code, end) => known(code, end, words, kinds, newest, floats, top),
         WordRead::Not => {
             let q = double(s, at);
             match q {
-                DoubleRead::Is(x, end) => tested(Value::Number(x), end),
+                DoubleRead::Is(x, end) => {
+                    floats[top] = x;
+                    tested(0, floats, top, end)
+                }
                 DoubleRead::Not => Evaluated::Sticks,
             }
         }
-    }
-}
-
-// The row for the word with this code over a bracket's n arguments, which end at a place: refusal 8, the row, refusal 7.
-fn row_value(e: Ellipsoid, code: u64, a: [Value; 5], n: usize, end: usize) -> Evaluated
-    ensures { λ r. ⌜ RowHas e code (take n a) end r ⌝ }
-{
-    let r = apply(e, code, a, n);
-    match r {
-        Applied::Value(v) => tested(v, end),
-        Applied::NoRow => Evaluated::Sticks,
-        Applied::Centre => Evaluated::Stops(8),
     }
 }
 
@@ -76,10 +84,14 @@ pub fn eval(
     at: usize,
     depth: usize,
     e: Ellipsoid,
-    kinds: &[u8; 101],
-    rows: &[[f64; 21]; 101],
+    words: &[u64; 96],
+    kinds: &[u8; 96],
+    newest: &[u8; 512],
+    floats: &mut [f64; 2940],
+    top: usize,
 ) -> Evaluated
-    ensures { λ r. ⌜ EvalsWith (now (s .entry)) at depth e (now (kinds .entry)) (now (rows .entry)) r ⌝ }
+    requires { ⌜ top + 84 * depth + 21 ≤ 2940 ⌝ }
+    ensures { λ r. ⌜ EvalsWith (now (s .entry)) at depth e (now (words .entry)) (now (kinds .entry)) (now (newest .entry)) (now (floats .entry)) top r (now (floats .exit)) ⌝ }
 {
     let b = byte(s, at);
     if b == 40 {
@@ -90,9 +102,20 @@ pub fn eval(
         let WordRead::Is(code, start) = w else {
             return Evaluated::Sticks;
         };
-        return bracket(s, start, depth - 1, e, code, kinds, rows);
+        return bracket(
+            s,
+            start,
+            depth - 1,
+            e,
+            code,
+            words,
+            kinds,
+            newest,
+            floats,
+            top,
+        );
     }
-    leaf(s, at, kinds, rows)
+    leaf(s, at, words, kinds, newest, floats, top)
 }
 
 // The bracket of the word with this code, from the place after its word: its arguments, the closing bracket, and then its row.
@@ -102,20 +125,25 @@ pub fn bracket(
     depth: usize,
     e: Ellipsoid,
     code: u64,
-    kinds: &[u8; 101],
-    rows: &[[f64; 21]; 101],
+    words: &[u64; 96],
+    kinds: &[u8; 96],
+    newest: &[u8; 512],
+    floats: &mut [f64; 2940],
+    top: usize,
 ) -> Evaluated
-    ensures { λ r. ⌜ BracketWith (now (s .entry)) at depth 5 e code (now (kinds .entry)) (now (rows .entry)) [] r ⌝ }
+    requires { ⌜ top + 84 * depth + 105 ≤ 2940 ⌝ }
+    ensures { λ r. ⌜ BracketWith (now (s .entry)) at depth 5 e code (now (words .entry)) (now (kinds .entry)) (now (newest .entry)) 0 (now (floats .entry)) top r (now (floats .exit)) ⌝ }
 {
     let mut i = at;
     let mut left: usize = 5;
-    let mut a = [Value::Number(0.0); 5];
+    let mut key: u64 = 0;
     let mut b = byte(s, at);
     while b == 32 {
         if left == 0 {
             return Evaluated::Sticks;
         }
-        let r = eval(s, i + 1, depth, e, kinds, rows);
+        let room = top + 21 * (5 - left);
+        let r = eval(s, i + 1, depth, e, words, kinds, newest, floats, room);
         match r {
             Evaluated::Sticks => {
                 return Evaluated::Sticks;
@@ -123,8 +151,8 @@ pub fn bracket(
             Evaluated::Stops(k) => {
                 return Evaluated::Stops(k);
             }
-            Evaluated::Is(v, end) => {
-                a[5 - left] = v;
+            Evaluated::Is(kind, end) => {
+                key = key * 16 + kind as u64 + 1;
                 i = end;
                 left -= 1;
                 b = byte(s, i);
@@ -132,7 +160,7 @@ pub fn bracket(
         }
     }
     if b == 41 {
-        return row_value(e, code, a, 5 - left, i + 1);
+        return apply(e, code, key, floats, top, i + 1);
     }
     Evaluated::Sticks
 }

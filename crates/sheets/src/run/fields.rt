@@ -2,20 +2,11 @@
 use numbers::float::bits;
 ghost use mathlib.Core.Path.{_≡_};
 ghost use mathlib.Core.List.{[], _∷_};
-ghost use Prim.Native.Nat.{_+_, _<_, _≤_};
-ghost use lib.ListN.{length};
-ghost use Rattle.sheets.specs.Output.{hexDigit, hex, fieldsText};
+ghost use Prim.Native.Nat.{_+_, _*_, _<_, _≤_};
+ghost use lib.ListN.{length, take};
+ghost use Rattle.sheets.specs.Output.{hex, fieldsText};
 ghost use Rattle.sheets.specs.code.run.Writing.{Written};
-
-const DIGITS: [u8; 16] = *b"0123456789abcdef";
-
-// 0 to 9, a to f.
-fn hex_digit(n: u64) -> u8
-    requires { ⌜ n < 16 ⌝ }
-    ensures { λ r. ⌜ r ≡ hexDigit n ⌝ }
-{
-    DIGITS[n as usize]
-}
+ghost use Rattle.sheets.specs.code.run.Digits.{bytes};
 
 // One byte.
 pub fn put_byte(b: u8, out: &mut [u8], at: usize) -> usize
@@ -26,24 +17,45 @@ pub fn put_byte(b: u8, out: &mut [u8], at: usize) -> usize
     at + 1
 }
 
-// The 16 digits of n, the last one first.
+// The eight last digits of n, the first of them in the lowest byte: first the digits' values, by three halvings, then 48 added to each, and 39 more to each above 9.
+fn digits_of(n: u64) -> u64
+    ensures { λ r. ⌜ bytes 8 r ≡ hex 8 n [] ⌝ }
+{
+    let a = n / 0x10000 % 0x10000 + (n % 0x10000) * 0x1_0000_0000;
+    let b = (a / 0x100 & 0xff_0000_00ff) + (a & 0xff_0000_00ff) * 0x10000;
+    let c = (b / 16 & 0xf_000f_000f_000f) + (b & 0xf_000f_000f_000f) * 0x100;
+    let over = (c + 0x606_0606_0606_0606) / 16 & 0x101_0101_0101_0101;
+    c + 0x3030_3030_3030_3030 + over * 39
+}
+
+// The eight last digits of n.
+fn put_eight(n: u64, out: &mut [u8], at: usize) -> usize
+    requires { ⌜ at + 8 ≤ length (now out) ⌝ }
+    ensures { λ r. ⌜ Written (now (out .entry)) at (hex 8 n []) (now (out .exit)) r ⌝ }
+{
+    let mut d = digits_of(n);
+    let mut i = at;
+    let mut left: usize = 8;
+    while 0 < left {
+        out[i] = (d % 256) as u8;
+        d = d / 256;
+        i += 1;
+        left -= 1;
+    }
+    i
+}
+
+// The 16 digits of n.
 fn put_hex(n: u64, out: &mut [u8], at: usize) -> usize
     requires { ⌜ at + 16 ≤ length (now out) ⌝ }
     ensures { λ r. ⌜ Written (now (out .entry)) at (hex 16 n []) (now (out .exit)) r ⌝ }
 {
-    let mut left: usize = 16;
-    let mut rest = n;
-    while 0 < left {
-        left -= 1;
-        let d = hex_digit(rest % 16);
-        out[at + left] = d;
-        rest = rest / 16;
-    }
-    at + 16
+    let m = put_eight(n / 0x1_0000_0000, out, at);
+    put_eight(n, out, m)
 }
 
 // One field.
-pub fn put_field(x: f64, out: &mut [u8], at: usize) -> usize
+fn put_field(x: f64, out: &mut [u8], at: usize) -> usize
     requires { ⌜ at + 17 ≤ length (now out) ⌝ }
     ensures { λ r. ⌜ Written (now (out .entry)) at (fieldsText (x ∷ [])) (now (out .exit)) r ⌝ }
 {
@@ -52,12 +64,17 @@ pub fn put_field(x: f64, out: &mut [u8], at: usize) -> usize
     put_hex(b, out, n)
 }
 
-// Three fields.
-pub fn put_three(x: f64, y: f64, z: f64, out: &mut [u8], at: usize) -> usize
-    requires { ⌜ at + 51 ≤ length (now out) ⌝ }
-    ensures { λ r. ⌜ Written (now (out .entry)) at (fieldsText (x ∷ y ∷ z ∷ [])) (now (out .exit)) r ⌝ }
+// The first `count` of a list of twelve fields.
+pub fn put_fields(row: &[f64; 12], count: usize, out: &mut [u8], at: usize) -> usize
+    requires { ⌜ (count ≤ 12) × (count ≤ length (now row)) × (at + count * 17 ≤ length (now out)) ⌝ }
+    ensures { λ r. ⌜ Written (now (out .entry)) at (fieldsText (take count (now (row .entry)))) (now (out .exit)) r ⌝ }
 {
-    let n = put_field(x, out, at);
-    let m = put_field(y, out, n);
-    put_field(z, out, m)
+    let mut i: usize = 0;
+    let mut n = at;
+    while i < count {
+        let x = row[i];
+        n = put_field(x, out, n);
+        i += 1;
+    }
+    n
 }

@@ -3,139 +3,161 @@ use crate::answers::RunAnswer;
 use crate::answers::run_answer;
 use crate::check::newest::put_newest;
 use crate::check::newest::word_place;
-use crate::reader::bytes::WordRead;
-use crate::reader::lines::word_slot;
-use crate::reader::words;
+use crate::reader::expr::Read;
+use crate::reader::lines::LineHead;
+use crate::reader::lines::NameAt;
+use crate::reader::lines::closing;
+use crate::reader::lines::line_head;
+use crate::rows::limits::in_limit;
 use crate::rows::value::Slot;
-use crate::rows::value::Value;
-use crate::rows::value::no_names;
-use crate::run::effects::Effect;
-use crate::run::effects::line_effect;
-use crate::run::effects::next_line;
-use crate::run::operands::Found;
-use crate::run::operands::put_found;
+use crate::rows::value::empty_slot;
+use crate::rows::value::kind_of;
+use crate::run::eval::Evaluated;
+use crate::run::eval::eval;
+use crate::run::floats::value_at;
+use crate::run::known::Found;
+use crate::run::known::slot_or_reading;
 use crate::run::text::output_line;
 use frames::ellipsoid::Ellipsoid;
 ghost use mathlib.Core.Path.{_≡_};
+ghost use Prim.Native.Nat.{_+_, _≤_};
 ghost use lib.Dec.{eqb};
 ghost use Rattle.sheets.specs.Table.{when};
-ghost use Rattle.sheets.specs.code.run.Slots.{noNames};
-ghost use Rattle.sheets.specs.declared.run.operands.Found.{Found};
-ghost use Rattle.sheets.specs.code.run.Running.{readingIndex, readingFound, Runs};
+ghost use Rattle.sheets.specs.declared.run.known.Found.{Found};
+ghost use Rattle.sheets.specs.code.run.Known.{readingFound};
+ghost use Rattle.sheets.specs.code.run.Running.{WithReadings, LetWith, Given, ShownAs, stoppedAt, Runs};
 
-// The number of the reading whose word has this code; 16 for none.
-fn reading_index(code: u64) -> usize
-    ensures { λ r. ⌜ r ≡ readingIndex code ⌝ }
+// The readings stand first among the floats.
+fn put_readings(readings: &[f64], floats: &mut [f64; 2940])
+    ensures { λ _. ⌜ WithReadings (now (readings .entry)) (now (floats .entry)) (now (floats .exit)) ⌝ }
 {
-    match code {
-        words::R0 => 0,
-        words::R1 => 1,
-        words::R2 => 2,
-        words::R3 => 3,
-        words::R4 => 4,
-        words::R5 => 5,
-        words::R6 => 6,
-        words::R7 => 7,
-        words::R8 => 8,
-        words::R9 => 9,
-        words::R10 => 10,
-        words::R11 => 11,
-        words::R12 => 12,
-        words::R13 => 13,
-        words::R14 => 14,
-        words::R15 => 15,
-        _ => 16,
+    let mut i: usize = 0;
+    while i < 16 {
+        if readings.len() <= i {
+            return;
+        }
+        floats[i] = readings[i];
+        i += 1;
     }
 }
 
-// A reading by its word's code.
-fn reading(code: u64, readings: &[f64]) -> Found
-    ensures { λ r. ⌜ r ≡ readingFound code (now (readings .entry)) ⌝ }
-{
-    let i = reading_index(code);
-    if 16 <= i {
-        return Found::Unknown;
-    }
-    if i < readings.len() {
-        return Found::Value(Value::Number(readings[i]));
-    }
-    Found::Value(Value::Number(0.0))
-}
-
-// What the slot x at the place j holds, or the reading with this code where no word was found: j is then 0.
-fn slot_or_reading(j: usize, x: Slot, code: u64, readings: &[f64]) -> Found
-    ensures { λ r. ⌜ r ≡ when (eqb j 0) (readingFound code (now (readings .entry))) (Found.Value (x .value)) ⌝ }
-{
-    if j == 0 {
-        return reading(code, readings);
-    }
-    let v = x.value;
-    Found::Value(v)
-}
-
-// The lines from line 2, which stands at `start`. An admitted sheet never sticks, so what is answered then does not matter.
-// The table of names stays here: it is read where a line's words are looked up, and a let stores one slot. Slot 0 stays empty.
-// `words` has the words' codes alone, each at its slot's place, and `newest` is that of newest.rt for it.
-pub fn run_lines(
+// What a let gives, from the place of its expression: the kind's code of its value, which lies at `top`, and the place of the next line.
+fn let_value(
     s: &[u8],
-    start: usize,
+    at: usize,
     e: Ellipsoid,
+    words: &[u64; 96],
+    kinds: &[u8; 96],
+    newest: &[u8; 512],
+    floats: &mut [f64; 2940],
+    top: usize,
+) -> Evaluated
+    requires { ⌜ top + 945 ≤ 2940 ⌝ }
+    ensures { λ r. ⌜ LetWith (now (s .entry)) at e (now (words .entry)) (now (kinds .entry)) (now (newest .entry)) (now (floats .entry)) top r (now (floats .exit)) ⌝ }
+{
+    let r = eval(s, at, 11, e, words, kinds, newest, floats, top);
+    let Evaluated::Is(kind, end) = r else {
+        return r;
+    };
+    let c = closing(s, end);
+    match c {
+        Read::At(next) => Evaluated::Is(kind, next),
+        Read::Bad => Evaluated::Sticks,
+    }
+}
+
+// A name is given at a place, where its value lies: the lists get its word, its kind and its newest place, and its slot is answered.
+fn give(
+    name: NameAt,
+    kind: u8,
+    place: usize,
+    floats: &[f64; 2940],
+    words: &mut [u64; 96],
+    kinds: &mut [u8; 96],
+    newest: &mut [u8; 512],
+) -> Slot
+    requires { ⌜ place ≤ 95 ⌝ }
+    ensures { λ r. ⌜ Given (name .code) kind place (now (floats .entry)) (now (words .entry)) (now (kinds .entry)) (now (newest .entry)) r (now (words .exit)) (now (kinds .exit)) (now (newest .exit)) ⌝ }
+{
+    let word = name.code;
+    words[place] = word;
+    kinds[place] = kind;
+    put_newest(newest, word, place as u8);
+    let value = value_at(kind, floats, 21 * place);
+    Slot { word, value }
+}
+
+// A show of a word, by its place j and the slot x there: the kind's code of what is shown, and the bytes then written.
+fn show(
+    s: &[u8],
+    name: NameAt,
+    j: usize,
+    x: Slot,
     readings: &[f64],
     out: &mut [u8],
-) -> RunAnswer
-    ensures { λ r. ⌜ Runs (now (s .entry)) e (now (readings .entry)) (now (out .entry)) start 2 noNames 0 0 (now (out .entry)) r (now (out .exit)) ⌝ }
+    written: usize,
+) -> Evaluated
+    ensures { λ r. ⌜ ShownAs (now (s .entry)) name (when (eqb j 0) (readingFound (name .code) (now (readings .entry))) (Found.Value (x .value))) (now (out .entry)) written r (now (out .exit)) ⌝ }
 {
-    let mut t = no_names();
+    let known = slot_or_reading(j, x, name.code, readings);
+    let Found::Value(v) = known else {
+        return Evaluated::Sticks;
+    };
+    if in_limit(v) {
+        let kind = kind_of(v);
+        let n = output_line(s, name.from, name.end, v, out, written);
+        return Evaluated::Is(kind, n);
+    }
+    Evaluated::Stops(7)
+}
+
+// The answer where a line does not go on. An admitted sheet never sticks, so what is answered then does not matter.
+fn stopped(r: Evaluated, line: usize, written: usize) -> RunAnswer
+    ensures { λ a. ⌜ a ≡ stoppedAt r line written ⌝ }
+{
+    match r {
+        Evaluated::Stops(number) => run_answer(number, line, written),
+        _ => run_answer(0, line, written),
+    }
+}
+
+// The lines from line 2, which stands at `from`.
+// The table of names stays here; slot 0 stays empty. `words`, `kinds` and `floats` have its words, kinds and values, each at its slot's place, for the evaluator; `newest` is that of newest.rt.
+pub fn run_lines(s: &[u8], from: usize, e: Ellipsoid, readings: &[f64], out: &mut [u8]) -> RunAnswer
+    ensures { λ r. ⌜ Runs (now (s .entry)) from e (now (readings .entry)) (now (out .entry)) r (now (out .exit)) ⌝ }
+{
+    let mut t = [empty_slot(); 96];
     let mut words = [0u64; 96];
+    let mut kinds = [255u8; 96];
     let mut newest = [0u8; 512];
-    let mut kinds = [255u8; 101];
-    let zeros = [0.0; 21];
-    let mut rows = [zeros; 101];
-    let mut at = start;
-    let mut number: usize = 2;
+    let mut floats = [0.0; 2940];
+    put_readings(readings, &mut floats);
+    let mut at = from;
+    let mut line: usize = 1;
     let mut n: usize = 0;
     let mut written: usize = 0;
-    while number <= 96 {
-        if s.len() <= at {
-            return run_answer(0, 0, written);
-        }
-        let to = next_line(s, at);
-        let l = &s[at..to];
-        // the first space of `(let ` stands at 4, that of `(show ` at 5
-        let mut p: usize = 4;
-        while p < l.len() {
-            let w = word_slot(l, p);
-            let WordRead::Is(code, _) = w else {
-                p += 1;
-                continue;
-            };
-            let j = word_place(&words, &newest, code);
-            let x = t[j];
-            let known = slot_or_reading(j, x, code, readings);
-            put_found(&mut kinds, &mut rows, (p + 1) / 2, known);
-            p += 1;
-        }
-        let r = line_effect(l, e, &kinds, &rows);
-        match r {
-            Effect::Sticks => {
-                return run_answer(0, number, written);
-            }
-            Effect::Stops(k) => {
-                return run_answer(k, number, written);
-            }
-            Effect::Gives(word, value) => {
+    while line < 96 && at < s.len() {
+        line += 1;
+        match line_head(s, at) {
+            LineHead::Bad => return run_answer(0, line, written),
+            LineHead::Let(name, value) => {
                 n += 1;
-                t[n] = Slot { word, value };
-                words[n] = word;
-                put_newest(&mut newest, word, n as u8);
-                at = to;
-                number += 1;
+                let r = let_value(s, value, e, &words, &kinds, &newest, &mut floats, 21 * n);
+                let Evaluated::Is(kind, next) = r else {
+                    return stopped(r, line, written);
+                };
+                t[n] = give(name, kind, n, &floats, &mut words, &mut kinds, &mut newest);
+                at = next;
                 continue;
             }
-            Effect::Shows(end, value) => {
-                written = output_line(l, 6, end, value, out, written);
-                at = to;
-                number += 1;
+            LineHead::Show(name, next) => {
+                let j = word_place(&words, &newest, name.code);
+                let r = show(s, name, j, t[j], readings, out, written);
+                let Evaluated::Is(_, count) = r else {
+                    return stopped(r, line, written);
+                };
+                written = count;
+                at = next;
                 continue;
             }
         }

@@ -1,110 +1,95 @@
 // An output line in a lent buffer: name, kind, fields and LF.
 use crate::rows::value::Value;
+use crate::rows::value::kind_of;
 use crate::run::fields::put_byte;
-use crate::run::fields::put_field;
-use crate::run::fields::put_three;
-use frames::frame::LocalFrame;
-use frames::orientation::Orientation;
-use frames::positions::GeocentricPosition;
-use frames::positions::GeodeticPosition;
-use frames::vector::LocalVector;
-use numbers::mat33::Mat33;
+use crate::run::fields::put_fields;
 ghost use mathlib.Core.Path.{_≡_};
-ghost use mathlib.Core.List.{[], _∷_};
-ghost use Prim.Native.Nat.{_+_, _-_, _≤_};
-ghost use lib.ListN.{length};
-ghost use Rattle.sheets.specs.Kinds.{orientationName};
-ghost use Rattle.sheets.specs.Output.{fieldsText};
-ghost use Rattle.sheets.specs.declared.rows.value.Value.{Value};
-ghost use Rattle.sheets.specs.code.run.Writing.{Written, part, byRows, valueText, fitting, room, lineIf};
+ghost use mathlib.Core.List.{_∷_};
+ghost use Prim.Native.Nat.{_+_, _-_, _<_, _≤_};
+ghost use lib.ListN.{length, replicate};
+ghost use Rattle.sheets.specs.code.run.Writing.{Written, part, zero64, padded, fieldCount, nameSize, kindText, valueText, fitting, room, lineIf};
 
-// Three letters.
-fn put_letters(a: u8, b: u8, c: u8, out: &mut [u8], at: usize) -> usize
-    requires { ⌜ at + 3 ≤ length (now out) ⌝ }
-    ensures { λ r. ⌜ Written (now (out .entry)) at (a ∷ b ∷ c ∷ []) (now (out .exit)) r ⌝ }
+// A list of at most four fields.
+fn short_fields(a: f64, b: f64, c: f64, d: f64) -> [f64; 12]
+    ensures { λ r. ⌜ r ≡ a ∷ b ∷ c ∷ d ∷ replicate 8 zero64 ⌝ }
 {
-    let n = put_byte(a, out, at);
-    let m = put_byte(b, out, n);
-    put_byte(c, out, m)
+    [a, b, c, d, 0.0, 0.0, 0.0, 0.0, 0.0, 0.0, 0.0, 0.0]
 }
 
-// enu, ned, body or wan.
-fn put_orientation(o: Orientation, out: &mut [u8], at: usize) -> usize
-    requires { ⌜ at + 4 ≤ length (now out) ⌝ }
-    ensures { λ r. ⌜ Written (now (out .entry)) at (orientationName o) (now (out .exit)) r ⌝ }
+// The fields of a value, and 0 behind them.
+fn fields_of(v: Value) -> [f64; 12]
+    ensures { λ r. ⌜ r ≡ padded v ⌝ }
 {
-    match o {
-        Orientation::Enu => put_letters(101, 110, 117, out, at),
-        Orientation::Ned => put_letters(110, 101, 100, out, at),
-        Orientation::Body => {
-            let n = put_letters(98, 111, 100, out, at);
-            put_byte(121, out, n)
-        }
-        Orientation::Wan => put_letters(119, 97, 110, out, at),
+    match v {
+        Value::Number(x) => short_fields(x, 0.0, 0.0, 0.0),
+        Value::Radians(x) => short_fields(x.0, 0.0, 0.0, 0.0),
+        Value::Metres(x) => short_fields(x.0, 0.0, 0.0, 0.0),
+        Value::Geocentric(p) => short_fields(p.x.0, p.y.0, p.z.0, 0.0),
+        Value::Geodetic(p) => short_fields(p.hp.0.x, p.hp.0.y, p.hp.0.z, p.height.0),
+        Value::Vector(p) => short_fields(p.x.0, p.y.0, p.z.0, 0.0),
+        Value::Frame(p) => [
+            p.origin.x,
+            p.origin.y,
+            p.origin.z,
+            p.dir_rm.r0.x,
+            p.dir_rm.r0.y,
+            p.dir_rm.r0.z,
+            p.dir_rm.r1.x,
+            p.dir_rm.r1.y,
+            p.dir_rm.r1.z,
+            p.dir_rm.r2.x,
+            p.dir_rm.r2.y,
+            p.dir_rm.r2.z,
+        ],
     }
 }
 
-// A kind of one letter and one field.
-fn put_one(kind: u8, x: f64, out: &mut [u8], at: usize) -> usize
-    requires { ⌜ at + 18 ≤ length (now out) ⌝ }
-    ensures { λ r. ⌜ Written (now (out .entry)) at (kind ∷ fieldsText (x ∷ [])) (now (out .exit)) r ⌝ }
+// How many fields a value of the kind with this code has.
+fn field_count(kind: u8) -> usize
+    ensures { λ r. ⌜ r ≡ fieldCount kind ⌝ }
 {
-    let n = put_byte(kind, out, at);
-    put_field(x, out, n)
+    if kind < 3 {
+        return 1;
+    }
+    if kind == 4 {
+        return 4;
+    }
+    if kind < 9 {
+        return 3;
+    }
+    12
 }
 
-// g and the coordinates.
-fn put_geocentric(g: GeocentricPosition, out: &mut [u8], at: usize) -> usize
-    requires { ⌜ at + 52 ≤ length (now out) ⌝ }
-    ensures { λ r. ⌜ Written (now (out .entry)) at (valueText (Value.Geocentric g)) (now (out .exit)) r ⌝ }
+// How many letters its name has.
+fn name_size(kind: u8) -> usize
+    ensures { λ r. ⌜ (r ≡ nameSize kind) × (r ≤ 5) ⌝ }
 {
-    let i = put_byte(103, out, at);
-    put_three(g.x.0, g.y.0, g.z.0, out, i)
+    if kind < 5 {
+        return 1;
+    }
+    if kind == 7 {
+        return 5;
+    }
+    if kind == 11 {
+        return 5;
+    }
+    4
 }
 
-// d, the n-vector and the height.
-fn put_geodetic(d: GeodeticPosition, out: &mut [u8], at: usize) -> usize
-    requires { ⌜ at + 69 ≤ length (now out) ⌝ }
-    ensures { λ r. ⌜ Written (now (out .entry)) at (valueText (Value.Geodetic d)) (now (out .exit)) r ⌝ }
+// Its name. In the string of all names each has five places.
+fn put_kind(kind: u8, out: &mut [u8], at: usize) -> usize
+    requires { ⌜ (kind < 13) × (at + 5 ≤ length (now out)) ⌝ }
+    ensures { λ r. ⌜ Written (now (out .entry)) at (kindText kind) (now (out .exit)) r ⌝ }
 {
-    let i = put_byte(100, out, at);
-    let v = d.hp.0;
-    let j = put_three(v.x, v.y, v.z, out, i);
-    put_field(d.height.0, out, j)
-}
-
-// v, the orientation and the components.
-fn put_vector(v: LocalVector, out: &mut [u8], at: usize) -> usize
-    requires { ⌜ at + 56 ≤ length (now out) ⌝ }
-    ensures { λ r. ⌜ Written (now (out .entry)) at (valueText (Value.Vector v)) (now (out .exit)) r ⌝ }
-{
-    let i = put_byte(118, out, at);
-    let o = v.orientation;
-    let j = put_orientation(o, out, i);
-    put_three(v.x.0, v.y.0, v.z.0, out, j)
-}
-
-// A matrix by rows.
-fn put_matrix(m: Mat33, out: &mut [u8], at: usize) -> usize
-    requires { ⌜ at + 153 ≤ length (now out) ⌝ }
-    ensures { λ r. ⌜ Written (now (out .entry)) at (fieldsText (byRows m)) (now (out .exit)) r ⌝ }
-{
-    let i = put_three(m.r0.x, m.r0.y, m.r0.z, out, at);
-    let j = put_three(m.r1.x, m.r1.y, m.r1.z, out, i);
-    put_three(m.r2.x, m.r2.y, m.r2.z, out, j)
-}
-
-// f, the orientation, the origin and the direction matrix by rows.
-fn put_frame(f: LocalFrame, out: &mut [u8], at: usize) -> usize
-    requires { ⌜ at + 209 ≤ length (now out) ⌝ }
-    ensures { λ r. ⌜ Written (now (out .entry)) at (valueText (Value.Frame f)) (now (out .exit)) r ⌝ }
-{
-    let i = put_byte(102, out, at);
-    let o = f.orientation;
-    let j = put_orientation(o, out, i);
-    let k = put_three(f.origin.x, f.origin.y, f.origin.z, out, j);
-    let m = f.dir_rm;
-    put_matrix(m, out, k)
+    let from = kind as usize * 5;
+    let size = name_size(kind);
+    put_name(
+        b"n    a    l    g    d    venu vned vbodyvwan fenu fned fbodyfwan ",
+        from,
+        from + size,
+        out,
+        at,
+    )
 }
 
 // The value's kind and its fields.
@@ -112,18 +97,14 @@ fn put_value(v: Value, out: &mut [u8], at: usize) -> usize
     requires { ⌜ at + 209 ≤ length (now out) ⌝ }
     ensures { λ r. ⌜ Written (now (out .entry)) at (valueText v) (now (out .exit)) r ⌝ }
 {
-    match v {
-        Value::Number(x) => put_one(110, x, out, at),
-        Value::Radians(a) => put_one(97, a.0, out, at),
-        Value::Metres(l) => put_one(108, l.0, out, at),
-        Value::Geocentric(g) => put_geocentric(g, out, at),
-        Value::Geodetic(d) => put_geodetic(d, out, at),
-        Value::Vector(w) => put_vector(w, out, at),
-        Value::Frame(f) => put_frame(f, out, at),
-    }
+    let kind = kind_of(v);
+    let row = fields_of(v);
+    let count = field_count(kind);
+    let i = put_kind(kind, out, at);
+    put_fields(&row, count, out, i)
 }
 
-// The bytes of the sheet from `from` to `end`.
+// The bytes of a text from `from` to `end`.
 fn put_name(s: &[u8], from: usize, end: usize, out: &mut [u8], at: usize) -> usize
     requires { ⌜ (from ≤ end) × (end ≤ length (now s)) × (at + (end - from) ≤ length (now out)) ⌝ }
     ensures { λ r. ⌜ Written (now (out .entry)) at (part (now (s .entry)) from end) (now (out .exit)) r ⌝ }

@@ -8,8 +8,8 @@ use borrow.Author.Needs.{needs}
 use Rattle.sheets.proofs.rows.apply_deg.Statement.{statement}
 use Rattle.sheets.proofs.rows.apply_deg.Tie as tie
 
-enum-known-p : tie.Need-enum-known-p
-enum-known-p c = search needs
+enum-known-degrees : tie.Need-enum-known-degrees
+enum-known-degrees c = search needs
 
 returns : tie.Need-returns
 unfolding table find hold
@@ -23,7 +23,7 @@ gives-angle-requires c κs = search needs
 
 returns-2 : tie.Need-returns-2
 unfolding table find hold
-returns-2 c = rw (c .gives-angle .ensures, is-𝐧 (c .before .before .before .p .given .1), c .before .from-degrees .ensures) refl
+returns-2 c = rw (c .gives-angle .ensures, is-𝐧 (c .before .before .before .degrees .given .1), c .before .from-degrees .ensures) refl
 
 pub apply-deg-spec : {M : Type 1} → statement M
-apply-deg-spec = tie.close (tie.spec enum-known-p returns from-degrees-requires gives-angle-requires returns-2)
+apply-deg-spec = tie.close (tie.spec enum-known-degrees returns from-degrees-requires gives-angle-requires returns-2)

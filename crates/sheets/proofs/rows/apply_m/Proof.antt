@@ -8,8 +8,8 @@ use borrow.Author.Needs.{needs}
 use Rattle.sheets.proofs.rows.apply_m.Statement.{statement}
 use Rattle.sheets.proofs.rows.apply_m.Tie as tie
 
-enum-known-p : tie.Need-enum-known-p
-enum-known-p c = search needs
+enum-known-metres : tie.Need-enum-known-metres
+enum-known-metres c = search needs
 
 returns : tie.Need-returns
 unfolding table find hold
@@ -23,7 +23,7 @@ gives-length-requires c κs = search needs
 
 returns-2 : tie.Need-returns-2
 unfolding table find hold
-returns-2 c = rw (c .gives-length .ensures, is-𝐧 (c .before .before .before .p .given .1), c .before .from-metres .ensures) refl
+returns-2 c = rw (c .gives-length .ensures, is-𝐧 (c .before .before .before .metres .given .1), c .before .from-metres .ensures) refl
 
 pub apply-m-spec : {M : Type 1} → statement M
-apply-m-spec = tie.close (tie.spec enum-known-p returns from-metres-requires gives-length-requires returns-2)
+apply-m-spec = tie.close (tie.spec enum-known-metres returns from-metres-requires gives-length-requires returns-2)

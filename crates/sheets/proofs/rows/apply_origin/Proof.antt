@@ -8,8 +8,8 @@ use borrow.Author.Needs.{needs}
 use Rattle.sheets.proofs.rows.apply_origin.Statement.{statement}
 use Rattle.sheets.proofs.rows.apply_origin.Tie as tie
 
-enum-known-p : tie.Need-enum-known-p
-enum-known-p c = search needs
+enum-known-frame : tie.Need-enum-known-frame
+enum-known-frame c = search needs
 
 returns : tie.Need-returns
 unfolding table find hold
@@ -23,7 +23,7 @@ gives-geocentric-requires c κs = search needs
 
 returns-2 : tie.Need-returns-2
 unfolding table find hold
-returns-2 c = rw (c .gives-geocentric .ensures, is-𝐟 (c .before .before .before .p .given .1), c .before .origin .ensures) refl
+returns-2 c = rw (c .gives-geocentric .ensures, is-𝐟 (c .before .before .before .frame .given .1), c .before .origin .ensures) refl
 
 pub apply-origin-spec : {M : Type 1} → statement M
-apply-origin-spec = tie.close (tie.spec enum-known-p returns origin-requires gives-geocentric-requires returns-2)
+apply-origin-spec = tie.close (tie.spec enum-known-frame returns origin-requires gives-geocentric-requires returns-2)

@@ -8,8 +8,8 @@ use borrow.Author.Needs.{needs}
 use Rattle.sheets.proofs.rows.apply_range.Statement.{statement}
 use Rattle.sheets.proofs.rows.apply_range.Tie as tie
 
-enum-known-p : tie.Need-enum-known-p
-enum-known-p c = search needs
+enum-known-vector : tie.Need-enum-known-vector
+enum-known-vector c = search needs
 
 returns : tie.Need-returns
 unfolding table find hold
@@ -23,7 +23,7 @@ gives-length-requires c κs = search needs
 
 returns-2 : tie.Need-returns-2
 unfolding table find hold
-returns-2 c = rw (c .gives-length .ensures, is-𝐯 (c .before .before .before .p .given .1), c .before .slant-range .ensures) refl
+returns-2 c = rw (c .gives-length .ensures, is-𝐯 (c .before .before .before .vector .given .1), c .before .slant-range .ensures) refl
 
 pub apply-range-spec : {M : Type 1} → statement M
-apply-range-spec = tie.close (tie.spec enum-known-p returns slant-range-requires gives-length-requires returns-2)
+apply-range-spec = tie.close (tie.spec enum-known-vector returns slant-range-requires gives-length-requires returns-2)

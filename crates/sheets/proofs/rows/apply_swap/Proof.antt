@@ -8,8 +8,8 @@ use borrow.Author.Needs.{needs}
 use Rattle.sheets.proofs.rows.apply_swap.Statement.{statement}
 use Rattle.sheets.proofs.rows.apply_swap.Tie as tie
 
-enum-known-p : tie.Need-enum-known-p
-enum-known-p c = search needs
+enum-known-vector : tie.Need-enum-known-vector
+enum-known-vector c = search needs
 
 returns : tie.Need-returns
 unfolding table find hold
@@ -26,12 +26,12 @@ gives-vector-requires c κs = search needs
 
 returns-2 : tie.Need-returns-2
 unfolding table find hold
-returns-2 c = rw (c .gives-vector .ensures, is-𝐯 (c .before .before .before .before .before .p .given .1), sym (c .before .before .before .enu-or-ned .ensures) ∙ c .before .before .if1 .taken, c .before .swap .ensures) refl
+returns-2 c = rw (c .gives-vector .ensures, is-𝐯 (c .before .before .before .before .before .vector .given .1), sym (c .before .before .before .enu-or-ned .ensures) ∙ c .before .before .if1 .taken, c .before .swap .ensures) refl
 
 returns-3 : tie.Need-returns-3
 unfolding table find hold
-returns-3 c = rw (is-𝐯 (c .before .before .before .p .given .1), sym (c .before .enu-or-ned .ensures) ∙ c .if1 .left) refl
+returns-3 c = rw (is-𝐯 (c .before .before .before .vector .given .1), sym (c .before .enu-or-ned .ensures) ∙ c .if1 .left) refl
 
 pub apply-swap-spec : {M : Type 1} → statement M
 apply-swap-spec =
-    tie.close (tie.spec enum-known-p returns enu-or-ned-requires swap-requires gives-vector-requires returns-2 returns-3)
+    tie.close (tie.spec enum-known-vector returns enu-or-ned-requires swap-requires gives-vector-requires returns-2 returns-3)

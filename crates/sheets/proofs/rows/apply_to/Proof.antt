@@ -8,19 +8,19 @@ use borrow.Author.Needs.{needs}
 use Rattle.sheets.proofs.rows.apply_to.Statement.{statement}
 use Rattle.sheets.proofs.rows.apply_to.Tie as tie
 
-enum-known-p : tie.Need-enum-known-p
-enum-known-p c = search needs
+enum-known-frame : tie.Need-enum-known-frame
+enum-known-frame c = search needs
 
 returns : tie.Need-returns
 unfolding table find hold
 returns c = rw (not-𝐟 _ (c .match .keys2)) refl
 
-enum-known-q : tie.Need-enum-known-q
-enum-known-q c = search needs
+enum-known-position : tie.Need-enum-known-position
+enum-known-position c = search needs
 
 returns-2 : tie.Need-returns-2
 unfolding table find hold
-returns-2 c = rw (is-𝐟 (c .before .before .p .given .1), not-𝐠 _ (c .match2 .keys2)) refl
+returns-2 c = rw (is-𝐟 (c .before .before .frame .given .1), not-𝐠 _ (c .match2 .keys2)) refl
 
 local-vector-to-requires : tie.Need-local-vector-to-requires
 local-vector-to-requires c κs = search needs
@@ -30,9 +30,9 @@ gives-vector-requires c κs = search needs
 
 returns-3 : tie.Need-returns-3
 unfolding table find hold
-returns-3 c = rw (c .gives-vector .ensures, is-𝐟 (c .before .before .before .before .before .before .p .given .1), is-𝐠 (c .before .before .before .q .given .1), c .before .local-vector-to .ensures) refl
+returns-3 c = rw (c .gives-vector .ensures, is-𝐟 (c .before .before .before .before .before .before .frame .given .1), is-𝐠 (c .before .before .before .position .given .1), c .before .local-vector-to .ensures) refl
 
 pub apply-to-spec : {M : Type 1} → statement M
 apply-to-spec =
     tie.close
-    (tie.spec enum-known-p returns enum-known-q returns-2 local-vector-to-requires gives-vector-requires returns-3)
+    (tie.spec enum-known-frame returns enum-known-position returns-2 local-vector-to-requires gives-vector-requires returns-3)

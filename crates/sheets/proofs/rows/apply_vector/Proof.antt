@@ -11,8 +11,8 @@ use Rattle.sheets.proofs.rows.apply_vector.Tie as tie
 lengths-of-requires : tie.Need-lengths-of-requires
 lengths-of-requires c κs = search needs
 
-enum-known-t : tie.Need-enum-known-t
-enum-known-t c = search needs
+enum-known-lx : tie.Need-enum-known-lx
+enum-known-lx c = search needs
 
 new-requires : tie.Need-new-requires
 new-requires c κs = search needs
@@ -24,11 +24,11 @@ enum-told : tie.Need-enum-told
 enum-told c = search needs
 
 returns : tie.Need-returns
-returns c = c .gives-vector .ensures ∙ ap (λ z. Applied.Value (Value.Vector z)) (c .before .new .ensures) ∙ vector-row _ _ _ _ (c .before .before .before .before .before .lengths-of .ensures ∙ ap lengths (c .before .before .before .t .given .1))
+returns c = c .gives-vector .ensures ∙ ap (λ z. Applied.Value (Value.Vector z)) (c .before .new .ensures) ∙ vector-row _ _ _ _ (c .before .before .before .before .before .lengths-of .ensures ∙ ap lengths (c .before .before .before .lx .given .1))
 
 returns-2 : tie.Need-returns-2
 returns-2 c = vector-row (c .before .before .before .args .e) (c .before .before .before .args .o) _ _ (c .before .before .lengths-of .ensures ∙ ap lengths (c .enum-told .given .1))
 
 pub apply-vector-spec : {M : Type 1} → statement M
 apply-vector-spec =
-    tie.close (tie.spec lengths-of-requires enum-known-t new-requires gives-vector-requires enum-told returns returns-2)
+    tie.close (tie.spec lengths-of-requires enum-known-lx new-requires gives-vector-requires enum-told returns returns-2)

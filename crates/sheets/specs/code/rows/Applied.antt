@@ -1,10 +1,7 @@
 -- What the code's operators answer, against the rows of the kind table.
-use mathlib.Core.Path.{_≡_}
-use mathlib.Core.List.{List, [], _∷_}
+use mathlib.Core.List.{[], _∷_}
 use mathlib.Core.Option.{Option, none, some}
 use mathlib.Core.Bool.{Bool, true, false}
-use Prim.Native.Nat.{ℕ}
-use lib.Dec.{eqb}
 use Rattle.frames.specs.declared.ellipsoid.Ellipsoid.{Ellipsoid}
 use Rattle.frames.specs.declared.orientation.Orientation.{Orientation}
 use Rattle.frames.specs.declared.orientation.Orientation.the-variants.{Enu, Ned, Body, Wan}
@@ -13,11 +10,11 @@ use Rattle.sheets.specs.declared.rows.args.Applied.{Applied}
 use Rattle.sheets.specs.declared.rows.args.Applied.the-variants.{Value as value, NoRow, Centre}
 use Rattle.sheets.specs.declared.rows.args.Lengths.{Lengths}
 use Rattle.sheets.specs.declared.rows.args.Aer.{Aer}
+use Rattle.sheets.specs.declared.rows.args.Axis.{Axis}
 use Rattle.sheets.specs.Text.{Word, ascii}
-use Rattle.sheets.specs.code.reader.Codes.{codeOf}
-use Rattle.sheets.specs.Letters.{Holds, hold, 𝐚, 𝐥}
-use Rattle.sheets.specs.Table.{Row, on, table}
-use Rattle.sheets.specs.Lookup.{Hit, hit}
+use Rattle.sheets.specs.Letters.{Holds, 𝐚, 𝐥}
+use Rattle.sheets.specs.Table.{on}
+use Rattle.sheets.specs.Lookup.{Hit}
 
 -- ---- the answer
 
@@ -32,15 +29,6 @@ applied e (some h) =
     let r = h .row in
     unlessNear (on (r .takes) (r .centred e) (h .args)) (value (on (r .takes) (r .apply e) (h .args)))
 
--- the first row whose word has the code and which takes these values
-unfoldable pub findBy : List Row → ℕ → List Value → Option Hit
-findBy [] c vs = none
-findBy (r ∷ rs) c vs = hit r (eqb (codeOf (r .word)) c) (hold (r .takes) vs) (findBy rs c vs)
-
--- r is its answer
-pub record Applies (e : Ellipsoid) (code : ℕ) (vs : List Value) (r : Applied) : Type 0 where
-  pub is : r ≡ applied e (findBy table code vs)
-
 -- ---- the arguments
 
 abbrev pub lengths : Lengths → Option (Holds (𝐥 ∷ 𝐥 ∷ 𝐥 ∷ []))
@@ -51,7 +39,7 @@ abbrev pub aer : Aer → Option (Holds (𝐚 ∷ 𝐚 ∷ 𝐥 ∷ []))
 aer (Aer.Are x y z) = some (x, (y, (z, tt)))
 aer Aer.Not = none
 
--- ---- words by an orientation
+-- ---- words by an orientation, an axis or a choice of two
 
 abbrev pub vectorWord : Orientation → Word
 vectorWord Enu = ascii "venu"
@@ -64,3 +52,18 @@ aerWord Enu = ascii "aenu"
 aerWord Ned = ascii "aned"
 aerWord Body = ascii "abody"
 aerWord Wan = ascii "awan"
+
+abbrev pub axisWord : Axis → Word
+axisWord Axis.Z = ascii "rz"
+axisWord Axis.Y = ascii "ry"
+axisWord Axis.X = ascii "rx"
+
+-- whether ned
+abbrev pub levelWord : Bool → Word
+levelWord false = ascii "enu"
+levelWord true = ascii "ned"
+
+-- whether minus
+abbrev pub sumWord : Bool → Word
+sumWord false = ascii "add"
+sumWord true = ascii "sub"

@@ -5,11 +5,17 @@ use mathlib.Core.Option.{Option, none, some}
 use mathlib.Core.Bool.{Bool, _&&_, not}
 use Prim.Native.Nat.{ℕ, suc, _+_, _*_}
 use lib.Dec.{eqb}
+use lib.ListN.{getD}
 use mir.Val.{hasKey}
 use Rattle.sheets.specs.code.reader.Codes.{codeOf}
-use Rattle.sheets.specs.Kinds.{Kind, kindCode}
+use Rattle.frames.specs.declared.orientation.Orientation.the-variants.{Enu, Ned, Body, Wan}
+use Rattle.sheets.specs.Kinds.{Kind, number, angle, len, geocentric, geodetic, vector, frame, kindCode}
 use Rattle.sheets.specs.Table.{Row, when, table}
 use Rattle.sheets.specs.Lookup.{oriented, KindRow, kindRows}
+
+-- the kind with this code; the last one for a number that is no kind's
+abbrev pub kindAt : ℕ → Kind
+kindAt n = getD (number ∷ angle ∷ len ∷ geocentric ∷ geodetic ∷ vector Enu ∷ vector Ned ∷ vector Body ∷ vector Wan ∷ frame Enu ∷ frame Ned ∷ frame Body ∷ frame Wan ∷ []) n (frame Wan)
 
 -- kinds as digits 1 to 13 to the base 16, after those that made the number n
 unfoldable pub keyFrom : ℕ → List Kind → ℕ

@@ -1,96 +1,74 @@
 -- What the pieces of the run answer, said of the machine over what the reader reads.
 -- No part of what must be believed: they only tie the code to the machine.
-use Prim.Native.Nat.{ℕ, zero, suc, _+_, _-_, _*_, _<_, _≤_}
+use Prim.Native.Nat.{ℕ, _*_, _%_, _<_}
 use mathlib.Core.Path.{_≡_}
-use mathlib.Core.List.{List, [], _∷_, map}
-use lib.Dec.{eqb, leb}
-use lib.ListN.{length, getD}
+use mathlib.Core.Bool.{Bool, true, false}
+use mathlib.Core.List.{List, []}
+use lib.ListN.{length, getD, set, replicate}
 use lib.Ieee.{Float}
 use Rattle.numbers.specs.Ops.{num}
 use Rattle.frames.specs.declared.ellipsoid.Ellipsoid.{Ellipsoid}
-use Rattle.sheets.specs.Entries.{entryLines}
 use Rattle.sheets.specs.declared.rows.value.Value.{Value}
-use Rattle.sheets.specs.declared.rows.value.Value.the-variants.{Number}
 use Rattle.sheets.specs.declared.rows.value.Slot.{Slot}
-use Rattle.sheets.specs.code.run.Slots.{emptySlot}
-use Rattle.sheets.specs.Text.{Word}
-use Rattle.sheets.specs.Trees.{Expr, Line, let-line, show-line, numbered}
-use Rattle.sheets.specs.Grammar.{IsWord}
-use Rattle.sheets.specs.code.reader.Codes.{codeOf}
-use Rattle.sheets.specs.code.reader.Reader.{got, readWord, readLine, formed, readLines}
-use Rattle.sheets.specs.Names.{Known, lookup, readingWords}
-use Rattle.sheets.specs.Table.{when}
-use Rattle.sheets.specs.Refusals.{stop, refusalNumber}
-use Rattle.sheets.specs.Machine.{Out, goes, stops, sticks, meet, eval, State, steps}
+use Rattle.sheets.specs.declared.reader.lines.NameAt.{NameAt}
 use Rattle.sheets.specs.declared.answers.RunAnswer.{RunAnswer}
-use Rattle.sheets.specs.Answers.{laid, Tells}
+use Rattle.sheets.specs.declared.run.eval.Evaluated.{Evaluated}
+use Rattle.sheets.specs.declared.run.known.Found.{Found}
+use Rattle.sheets.specs.Text.{Word}
+use Rattle.sheets.specs.Trees.{Expr, Line, let-line, numbered}
+use Rattle.sheets.specs.Kinds.{kindOf, kindCode}
+use Rattle.sheets.specs.Limits.{inLimit}
+use Rattle.sheets.specs.Names.{Known, readingWords}
+use Rattle.sheets.specs.Machine.{eval, State, steps, readings}
+use Rattle.sheets.specs.Answers.{Tells}
 use Rattle.sheets.specs.Claim.{Unstuck}
-use Rattle.sheets.specs.code.run.Operands.{foundOf, Ready}
-use Rattle.sheets.specs.declared.run.operands.Found.{Found}
-use Rattle.sheets.specs.declared.run.effects.Effect.{Effect}
+use Rattle.sheets.specs.code.reader.Reader.{got, let-word, rest, formed, readLines}
+use Rattle.sheets.specs.code.rows.KindCodes.{kindAt}
+use Rattle.sheets.specs.code.run.Floats.{floatAt, valueAt}
+use Rattle.sheets.specs.code.run.Known.{Ready}
+use Rattle.sheets.specs.code.run.Evaluating.{Answers}
+use Rattle.sheets.specs.code.run.Writing.{Written, lineIf, room}
 
--- ---- the known words: those in the table of names, the newest first, and then the readings
-
--- the place of a number in a list, the list's length where it is not there
-unfoldable pub indexIn : List ℕ → ℕ → ℕ
-indexIn [] c = 0
-indexIn (k ∷ ks) c = when (eqb c k) 0 (suc (indexIn ks c))
-
--- the number of the reading whose word has this code, r0 to r15; 16 for none
-unfoldable pub readingIndex : ℕ → ℕ
-readingIndex c = indexIn (map codeOf readingWords) c
-
-unfoldable pub readingFound : ℕ → List Float → Found
-readingFound c rs = let i = readingIndex c in when (leb 16 i) Found.Unknown (Found.Value (Number (getD rs i (num 0))))
-
--- the word with this code among the first n slots after slot 0, the newest first, and then the readings
-unfoldable pub wordFound : List Slot → List Float → ℕ → ℕ → Found
-wordFound t rs zero c = readingFound c rs
-wordFound t rs (suc n) c = when (eqb (getD t (suc n) emptySlot .word) c) (Found.Value (getD t (suc n) emptySlot .value)) (wordFound t rs n c)
-
--- n slots and the readings stand for the known words ps
-pub record Tabled (ps : Known Value) (t : List Slot) (n : ℕ) (rs : List Float) : Type 0 where
-  pub is : (w : Word) → IsWord w → foundOf (lookup w ps) ≡ wordFound t rs n (codeOf w)
+-- the readings stand first among the floats, 0 for one that is lacking, where there were only zeros
+pub record WithReadings (rs f f′ : List Float) : Type 0 where
+  pub is : f ≡ replicate 2940 (num 0) → (length f′ ≡ 2940) × ((i : ℕ) → i < 16 → floatAt f′ i ≡ getD rs i (num 0))
 
 -- ---- a line
 
--- r is the place after the first LF from a place on, where one stands in the next 200 bytes; else the place itself
-pub record NextLine (s : List ℕ) (at r : ℕ) : Type 0 where
-  pub low : at ≤ r
-  pub high : at ≤ length s → r ≤ length s
-  pub short : r ≤ at + 200
-  pub is : (m : ℕ) → at ≤ m → m < at + 200 → getD s m 0 ≡ 10 → ((k : ℕ) → at ≤ k → k < m → getD s k 0 ≡ 10 → ⊥) → r ≡ m + 1
-  pub no-lf : ((k : ℕ) → at ≤ k → k < at + 200 → getD s k 0 ≡ 10 → ⊥) → r ≡ at
+-- what is left of a let from the place of its expression: its value, and the place of the next line
+pub record LetWith (s : List ℕ) (at : ℕ) (e : Ellipsoid) (words kinds newest : List ℕ) (f : List Float) (top : ℕ) (r : Evaluated) (f′ : List Float) : Type 0 where
+  pub is : (ps : Known Value) → Ready ps words kinds newest f top → (w : Word) (l : Line) (n : ℕ) → rest s (let-word w) at ≡ got l n → (x : Expr) × (l ≡ let-line w x) × Answers (eval x e ps) n top f r f′
 
-unfoldable pub letEffect : ℕ → Out Value → Effect
-letEffect c (goes fs v) = Effect.Gives c v
-letEffect c (stops fs r) = Effect.Stops (refusalNumber (stop r))
-letEffect c (sticks fs) = Effect.Sticks
+-- a name given at a place: x is its slot, and the lists have its word, its kind and its newest place
+pub record Given (word kind place : ℕ) (f : List Float) (words kinds newest : List ℕ) (x : Slot) (words′ kinds′ newest′ : List ℕ) : Type 0 where
+  pub slot-is : x ≡ record { word = word; value = valueAt (kindAt kind) f (21 * place) }
+  pub words-are : words′ ≡ set words place word
+  pub kinds-are : kinds′ ≡ set kinds place kind
+  pub newest-are : newest′ ≡ set newest (word % 512) place
 
-unfoldable pub showEffect : ℕ → Out Value → Effect
-showEffect m (goes fs v) = Effect.Shows m v
-showEffect m (stops fs r) = Effect.Stops (refusalNumber (stop r))
-showEffect m (sticks fs) = Effect.Sticks
+-- the line of the value under the name, and the bytes then written
+unfoldable pub ShownIf : Bool → List ℕ → NameAt → Value → List ℕ → ℕ → Evaluated → List ℕ → Type 0
+ShownIf true s name v out written r out′ = (m : ℕ) × (r ≡ Evaluated.Is (kindCode (kindOf v)) m) × Written out written (lineIf (room s (name .from) (name .end) out written) s (name .from) (name .end) v) out′ m
+ShownIf false s name v out written r out′ = (r ≡ Evaluated.Stops 7) × (out′ ≡ out)
 
--- what a line does; a let's word stands at the place 5 of its line, a show's at the place 6
-unfoldable pub EffectOf : List ℕ → Line → Ellipsoid → Known Value → Effect → Type 0
-EffectOf l (let-line w x) e ps r = r ≡ letEffect (codeOf w) (eval x e ps)
-EffectOf l (show-line w) e ps r = (m : ℕ) × (readWord l 6 ≡ got w m) × (r ≡ showEffect m (meet (lookup w ps)))
+-- a show of what was found
+unfoldable pub Shown : List ℕ → NameAt → Found → List ℕ → ℕ → Evaluated → List ℕ → Type 0
+Shown s name (Found.Value v) out written r out′ = ShownIf (inLimit v) s name v out written r out′
+Shown s name Found.Unknown out written r out′ = (r ≡ Evaluated.Sticks) × (out′ ≡ out)
 
-pub record LetWith (l : List ℕ) (e : Ellipsoid) (ks : List ℕ) (fs : List (List Float)) (r : Effect) : Type 0 where
-  pub is : (ps : Known Value) → Ready l ks fs ps → (w : Word) (x : Expr) (n : ℕ) → readLine l 0 ≡ got (let-line w x) n → r ≡ letEffect (codeOf w) (eval x e ps)
+pub record ShownAs (s : List ℕ) (name : NameAt) (x : Found) (out : List ℕ) (written : ℕ) (r : Evaluated) (out′ : List ℕ) : Type 0 where
+  pub is : Shown s name x out written r out′
 
-pub record ShowWith (l : List ℕ) (ks : List ℕ) (fs : List (List Float)) (r : Effect) : Type 0 where
-  pub is : (ps : Known Value) → Ready l ks fs ps → (w : Word) (n : ℕ) → readLine l 0 ≡ got (show-line w) n → (m : ℕ) × (readWord l 6 ≡ got w m) × (r ≡ showEffect m (meet (lookup w ps)))
-
-pub record EffectWith (l : List ℕ) (e : Ellipsoid) (ks : List ℕ) (fs : List (List Float)) (r : Effect) : Type 0 where
-  pub is : (ps : Known Value) → Ready l ks fs ps → (x : Line) (n : ℕ) → readLine l 0 ≡ got x n → EffectOf l x e ps r
+-- the answer where a line does not go on
+unfoldable pub stoppedAt : Evaluated → ℕ → ℕ → RunAnswer
+stoppedAt (Evaluated.Is k n) i m = record { number = 0; line = i; written = m }
+stoppedAt (Evaluated.Stops k) i m = record { number = k; line = i; written = m }
+stoppedAt Evaluated.Sticks i m = record { number = 0; line = i; written = m }
 
 -- ---- the lines
 
--- From line `number` on, where n words are in the table t, and `out`, at first d, holds the text written: the run answers r and leaves out′.
-pub record Runs (s : List ℕ) (e : Ellipsoid) (rs : List Float) (d : List ℕ) (at number : ℕ) (t : List Slot) (n written : ℕ) (out : List ℕ) (r : RunAnswer) (out′ : List ℕ) : Type 0 where
-  pub is : length d ≡ 24576 → (ls : List Line) (left p : ℕ) → readLines left number p s at ≡ formed ls → number + left ≡ 97
-      → (st : State) → st .ellipsoid ≡ e → Tabled (st .scope .known) t n rs → written ≡ length (entryLines (st .entries)) → written ≤ 223 * (number - 2) → out ≡ laid (entryLines (st .entries)) d
-      → Unstuck (steps (numbered number ls) st)
-      → Tells (steps (numbered number ls) st) d r out′
+-- from line 2, which stands at `start`, over the readings: of lines that do not stick, r and out′ tell what the machine comes to
+pub record Runs (s : List ℕ) (start : ℕ) (e : Ellipsoid) (rs : List Float) (out : List ℕ) (r : RunAnswer) (out′ : List ℕ) : Type 0 where
+  pub is : length out ≡ 24576 → (ls : List Line) → readLines 95 2 0 s start ≡ formed ls
+      → (st : State) → st .ellipsoid ≡ e → st .scope .known ≡ readings readingWords rs → st .entries ≡ []
+      → Unstuck (steps (numbered 2 ls) st) → Tells (steps (numbered 2 ls) st) out r out′

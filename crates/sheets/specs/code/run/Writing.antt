@@ -1,15 +1,15 @@
 -- No part of what must be believed: what the code that prints a value answers, which ties the code to Output.
-use Prim.Native.Nat.{ℕ, _+_, _-_}
+use Prim.Native.Nat.{ℕ, _+_, _-_, _*_}
 use mathlib.Core.Path.{_≡_}
 use mathlib.Core.Bool.{Bool, true, false, _&&_}
-use mathlib.Core.List.{List, [], _∷_}
-use lib.Dec.{leb}
-use lib.ListN.{length, set, take, drop}
-use lib.Ieee.{Float}
-use Rattle.numbers.specs.declared.mat33.Mat33.{Mat33}
+use mathlib.Core.List.{List, [], _∷_, _++_}
+use lib.Dec.{eqb, leb, ltb}
+use lib.ListN.{length, set, take, drop, replicate}
+use lib.Ieee.{Float, binary64, ofBits}
 use Rattle.sheets.specs.declared.rows.value.Value.{Value}
-use Rattle.sheets.specs.Text.{_⌢_}
+use Rattle.sheets.specs.Text.{ascii, _⌢_}
 use Rattle.sheets.specs.Kinds.{kindOf, kindName}
+use Rattle.sheets.specs.Table.{when}
 use Rattle.sheets.specs.Output.{fields, fieldsText, outputLine}
 
 -- a buffer after bytes were stored one by one from a place on
@@ -22,13 +22,30 @@ pub record Written (d : List ℕ) (at : ℕ) (text : List ℕ) (d′ : List ℕ)
   pub is : d′ ≡ writes d at text
   pub end : r ≡ at + length text
 
--- a matrix by rows
-abbrev pub byRows : Mat33 → List Float
-byRows m = m .r0 .x ∷ m .r0 .y ∷ m .r0 .z ∷ m .r1 .x ∷ m .r1 .y ∷ m .r1 .z ∷ m .r2 .x ∷ m .r2 .y ∷ m .r2 .z ∷ []
-
 -- the bytes from `from` to `end`
 abbrev pub part : List ℕ → ℕ → ℕ → List ℕ
 part s from end = take (end - from) (drop from s)
+
+-- the value's fields, and 0 behind them up to twelve
+abbrev pub zero64 : Float
+zero64 = ofBits binary64 0
+
+unfoldable pub padded : Value → List Float
+padded x = fields x ++ replicate (12 - length (fields x)) zero64
+
+-- how many fields a value of the kind with this code has
+unfoldable pub fieldCount : ℕ → ℕ
+fieldCount k = when (ltb k 3) 1 (when (eqb k 4) 4 (when (ltb k 9) 3 12))
+
+-- the names of the kinds in the order of their codes, in five places each, and how many letters a name has
+abbrev pub names : List ℕ
+names = ascii "n    a    l    g    d    venu vned vbodyvwan fenu fned fbodyfwan "
+
+unfoldable pub nameSize : ℕ → ℕ
+nameSize k = when (ltb k 5) 1 (when (eqb k 7) 5 (when (eqb k 11) 5 4))
+
+unfoldable pub kindText : ℕ → List ℕ
+kindText k = part names (k * 5) (k * 5 + nameSize k)
 
 -- kind and fields
 unfoldable pub valueText : Value → List ℕ

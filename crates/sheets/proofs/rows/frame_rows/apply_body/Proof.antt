@@ -8,29 +8,29 @@ use borrow.Author.Needs.{needs}
 use Rattle.sheets.proofs.rows.frame_rows.apply_body.Statement.{statement}
 use Rattle.sheets.proofs.rows.frame_rows.apply_body.Tie as tie
 
-enum-known-p : tie.Need-enum-known-p
-enum-known-p c = search needs
+enum-known-yaw : tie.Need-enum-known-yaw
+enum-known-yaw c = search needs
 
 returns : tie.Need-returns
 unfolding table find hold
 returns c = rw (not-𝐚 _ (c .match .keys2)) refl
 
-enum-known-q : tie.Need-enum-known-q
-enum-known-q c = search needs
+enum-known-pitch : tie.Need-enum-known-pitch
+enum-known-pitch c = search needs
 
 returns-2 : tie.Need-returns-2
 unfolding table find hold
-returns-2 c = rw (is-𝐚 (c .before .before .p .given .1), not-𝐚 _ (c .match2 .keys2)) refl
+returns-2 c = rw (is-𝐚 (c .before .before .yaw .given .1), not-𝐚 _ (c .match2 .keys2)) refl
 
-enum-known-j : tie.Need-enum-known-j
-enum-known-j c = search needs
+enum-known-roll : tie.Need-enum-known-roll
+enum-known-roll c = search needs
 
 returns-3 : tie.Need-returns-3
 unfolding table find hold
-returns-3 c = rw (is-𝐚 (c .before .before .before .before .before .p .given .1), is-𝐚 (c .before .before .q .given .1), not-𝐚 _ (c .match3 .keys2)) refl
+returns-3 c = rw (is-𝐚 (c .before .before .before .before .before .yaw .given .1), is-𝐚 (c .before .before .pitch .given .1), not-𝐚 _ (c .match3 .keys2)) refl
 
-enum-known-s : tie.Need-enum-known-s
-enum-known-s c = search needs
+enum-known-position : tie.Need-enum-known-position
+enum-known-position c = search needs
 
 is-far-requires : tie.Need-is-far-requires
 is-far-requires c κs = search needs
@@ -41,8 +41,8 @@ body-from-geocentric-requires c κs = search needs
 gives-frame-requires : tie.Need-gives-frame-requires
 gives-frame-requires c κs = search needs
 
-enum-known-s-2 : tie.Need-enum-known-s-2
-enum-known-s-2 c = search needs
+enum-known-position-2 : tie.Need-enum-known-position-2
+enum-known-position-2 c = search needs
 
 body-from-geodetic-requires : tie.Need-body-from-geodetic-requires
 body-from-geodetic-requires c κs = search needs
@@ -52,35 +52,35 @@ gives-frame-requires-2 c κs = search needs
 
 returns-4 : tie.Need-returns-4
 unfolding table find hold
-returns-4 c = rw (c .gives-frame .ensures, is-𝐚 (c .before .before .before .before .before .before .before .before .before .before .before .before .before .before .p .given .1), is-𝐚 (c .before .before .before .before .before .before .before .before .before .before .before .q .given .1), is-𝐚 (c .before .before .before .before .before .before .before .before .j .given .1), is-𝐠 (c .before .before .before .before .before .s .given .1), sym (c .before .before .before .is-far .ensures) ∙ c .before .before .if1 .taken, c .before .body-from-geocentric .ensures) refl
+returns-4 c = rw (c .gives-frame .ensures, is-𝐚 (c .before .before .before .before .before .before .before .before .before .before .before .before .before .before .yaw .given .1), is-𝐚 (c .before .before .before .before .before .before .before .before .before .before .before .pitch .given .1), is-𝐚 (c .before .before .before .before .before .before .before .before .roll .given .1), is-𝐠 (c .before .before .before .before .before .position .given .1), sym (c .before .before .before .is-far .ensures) ∙ c .before .before .if1 .taken, c .before .body-from-geocentric .ensures) refl
 
 returns-5 : tie.Need-returns-5
 unfolding table find hold
-returns-5 c = rw (is-𝐚 (c .before .before .before .before .before .before .before .before .before .before .before .before .p .given .1), is-𝐚 (c .before .before .before .before .before .before .before .before .before .q .given .1), is-𝐚 (c .before .before .before .before .before .before .j .given .1), is-𝐠 (c .before .before .before .s .given .1), sym (c .before .is-far .ensures) ∙ c .if1 .left) refl
+returns-5 c = rw (is-𝐚 (c .before .before .before .before .before .before .before .before .before .before .before .before .yaw .given .1), is-𝐚 (c .before .before .before .before .before .before .before .before .before .pitch .given .1), is-𝐚 (c .before .before .before .before .before .before .roll .given .1), is-𝐠 (c .before .before .before .position .given .1), sym (c .before .is-far .ensures) ∙ c .if1 .left) refl
 
 returns-6 : tie.Need-returns-6
 unfolding table find hold
-returns-6 c = rw (c .gives-frame2 .ensures, is-𝐚 (c .before .before .before .before .before .before .before .before .before .before .before .before .p .given .1), is-𝐚 (c .before .before .before .before .before .before .before .before .before .q .given .1), is-𝐚 (c .before .before .before .before .before .before .j .given .1), 𝐝-not-𝐠 (c .before .before .before .s2 .given .1), is-𝐝 (c .before .before .before .s2 .given .1), c .before .body-from-geodetic .ensures) refl
+returns-6 c = rw (c .gives-frame2 .ensures, is-𝐚 (c .before .before .before .before .before .before .before .before .before .before .before .before .yaw .given .1), is-𝐚 (c .before .before .before .before .before .before .before .before .before .pitch .given .1), is-𝐚 (c .before .before .before .before .before .before .roll .given .1), 𝐝-not-𝐠 (c .before .before .before .position2 .given .1), is-𝐝 (c .before .before .before .position2 .given .1), c .before .body-from-geodetic .ensures) refl
 
 returns-7 : tie.Need-returns-7
 unfolding table find hold
-returns-7 c = rw (is-𝐚 (c .before .before .before .before .before .before .before .before .p .given .1), is-𝐚 (c .before .before .before .before .before .q .given .1), is-𝐚 (c .before .before .j .given .1), no-𝐠 _ (c .match4 .keys3), no-𝐝 _ (c .match4 .keys3)) refl
+returns-7 c = rw (is-𝐚 (c .before .before .before .before .before .before .before .before .yaw .given .1), is-𝐚 (c .before .before .before .before .before .pitch .given .1), is-𝐚 (c .before .before .roll .given .1), no-𝐠 _ (c .match4 .keys3), no-𝐝 _ (c .match4 .keys3)) refl
 
 pub apply-body-spec : {M : Type 1} → statement M
 apply-body-spec =
     tie.close
     (tie.spec
-    enum-known-p
+    enum-known-yaw
     returns
-    enum-known-q
+    enum-known-pitch
     returns-2
-    enum-known-j
+    enum-known-roll
     returns-3
-    enum-known-s
+    enum-known-position
     is-far-requires
     body-from-geocentric-requires
     gives-frame-requires
-    enum-known-s-2
+    enum-known-position-2
     body-from-geodetic-requires
     gives-frame-requires-2
     returns-4

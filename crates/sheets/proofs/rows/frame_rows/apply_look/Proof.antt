@@ -8,22 +8,22 @@ use borrow.Author.Needs.{needs}
 use Rattle.sheets.proofs.rows.frame_rows.apply_look.Statement.{statement}
 use Rattle.sheets.proofs.rows.frame_rows.apply_look.Tie as tie
 
-enum-known-p : tie.Need-enum-known-p
-enum-known-p c = search needs
+enum-known-position : tie.Need-enum-known-position
+enum-known-position c = search needs
 
-enum-known-q : tie.Need-enum-known-q
-enum-known-q c = search needs
+enum-known-target : tie.Need-enum-known-target
+enum-known-target c = search needs
 
 returns : tie.Need-returns
 unfolding table find hold
-returns c = rw (is-𝐠 (c .before .before .p .given .1), 𝐠-not-𝐝 (c .before .before .p .given .1), not-𝐠 _ (c .match2 .keys2)) refl
+returns c = rw (is-𝐠 (c .before .before .position .given .1), 𝐠-not-𝐝 (c .before .before .position .given .1), not-𝐠 _ (c .match2 .keys2)) refl
 
-enum-known-j : tie.Need-enum-known-j
-enum-known-j c = search needs
+enum-known-roll : tie.Need-enum-known-roll
+enum-known-roll c = search needs
 
 returns-2 : tie.Need-returns-2
 unfolding table find hold
-returns-2 c = rw (is-𝐠 (c .before .before .before .before .before .p .given .1), 𝐠-not-𝐝 (c .before .before .before .before .before .p .given .1), is-𝐠 (c .before .before .q .given .1), not-𝐚 _ (c .match3 .keys2)) refl
+returns-2 c = rw (is-𝐠 (c .before .before .before .before .before .position .given .1), 𝐠-not-𝐝 (c .before .before .before .before .before .position .given .1), is-𝐠 (c .before .before .target .given .1), not-𝐚 _ (c .match3 .keys2)) refl
 
 is-far-requires : tie.Need-is-far-requires
 is-far-requires c κs = search needs
@@ -34,22 +34,22 @@ looking-at-geocentric-requires c κs = search needs
 gives-frame-requires : tie.Need-gives-frame-requires
 gives-frame-requires c κs = search needs
 
-enum-known-p-2 : tie.Need-enum-known-p-2
-enum-known-p-2 c = search needs
+enum-known-position-2 : tie.Need-enum-known-position-2
+enum-known-position-2 c = search needs
 
-enum-known-q-2 : tie.Need-enum-known-q-2
-enum-known-q-2 c = search needs
+enum-known-target-2 : tie.Need-enum-known-target-2
+enum-known-target-2 c = search needs
 
 returns-3 : tie.Need-returns-3
 unfolding table find hold
-returns-3 c = rw (𝐝-not-𝐠 (c .before .before .p2 .given .1), is-𝐝 (c .before .before .p2 .given .1), not-𝐝 _ (c .match4 .keys2)) refl
+returns-3 c = rw (𝐝-not-𝐠 (c .before .before .position2 .given .1), is-𝐝 (c .before .before .position2 .given .1), not-𝐝 _ (c .match4 .keys2)) refl
 
-enum-known-j-2 : tie.Need-enum-known-j-2
-enum-known-j-2 c = search needs
+enum-known-roll-2 : tie.Need-enum-known-roll-2
+enum-known-roll-2 c = search needs
 
 returns-4 : tie.Need-returns-4
 unfolding table find hold
-returns-4 c = rw (𝐝-not-𝐠 (c .before .before .before .before .before .p2 .given .1), is-𝐝 (c .before .before .before .before .before .p2 .given .1), is-𝐝 (c .before .before .q2 .given .1), not-𝐚 _ (c .match5 .keys2)) refl
+returns-4 c = rw (𝐝-not-𝐠 (c .before .before .before .before .before .position2 .given .1), is-𝐝 (c .before .before .before .before .before .position2 .given .1), is-𝐝 (c .before .before .target2 .given .1), not-𝐚 _ (c .match5 .keys2)) refl
 
 looking-at-geodetic-requires : tie.Need-looking-at-geodetic-requires
 looking-at-geodetic-requires c κs = search needs
@@ -59,15 +59,15 @@ gives-frame-requires-2 c κs = search needs
 
 returns-5 : tie.Need-returns-5
 unfolding table find hold
-returns-5 c = rw (c .gives-frame .ensures, is-𝐠 (c .before .before .before .before .before .before .before .before .before .before .before .p .given .1), is-𝐠 (c .before .before .before .before .before .before .before .before .q .given .1), is-𝐚 (c .before .before .before .before .before .j .given .1), sym (c .before .before .before .is-far .ensures) ∙ c .before .before .if1 .taken, c .before .looking-at-geocentric .ensures) refl
+returns-5 c = rw (c .gives-frame .ensures, is-𝐠 (c .before .before .before .before .before .before .before .before .before .before .before .position .given .1), is-𝐠 (c .before .before .before .before .before .before .before .before .target .given .1), is-𝐚 (c .before .before .before .before .before .roll .given .1), sym (c .before .before .before .is-far .ensures) ∙ c .before .before .if1 .taken, c .before .looking-at-geocentric .ensures) refl
 
 returns-6 : tie.Need-returns-6
 unfolding table find hold
-returns-6 c = rw (is-𝐠 (c .before .before .before .before .before .before .before .before .before .p .given .1), is-𝐠 (c .before .before .before .before .before .before .q .given .1), is-𝐚 (c .before .before .before .j .given .1), sym (c .before .is-far .ensures) ∙ c .if1 .left) refl
+returns-6 c = rw (is-𝐠 (c .before .before .before .before .before .before .before .before .before .position .given .1), is-𝐠 (c .before .before .before .before .before .before .target .given .1), is-𝐚 (c .before .before .before .roll .given .1), sym (c .before .is-far .ensures) ∙ c .if1 .left) refl
 
 returns-7 : tie.Need-returns-7
 unfolding table find hold
-returns-7 c = rw (c .gives-frame2 .ensures, 𝐝-not-𝐠 (c .before .before .before .before .before .before .before .before .before .p2 .given .1), is-𝐝 (c .before .before .before .before .before .before .before .before .before .p2 .given .1), is-𝐝 (c .before .before .before .before .before .before .q2 .given .1), is-𝐚 (c .before .before .before .j2 .given .1), c .before .looking-at-geodetic .ensures) refl
+returns-7 c = rw (c .gives-frame2 .ensures, 𝐝-not-𝐠 (c .before .before .before .before .before .before .before .before .before .position2 .given .1), is-𝐝 (c .before .before .before .before .before .before .before .before .before .position2 .given .1), is-𝐝 (c .before .before .before .before .before .before .target2 .given .1), is-𝐚 (c .before .before .before .roll2 .given .1), c .before .looking-at-geodetic .ensures) refl
 
 returns-8 : tie.Need-returns-8
 unfolding table find hold
@@ -77,18 +77,18 @@ pub apply-look-spec : {M : Type 1} → statement M
 apply-look-spec =
     tie.close
     (tie.spec
-    enum-known-p
-    enum-known-q
+    enum-known-position
+    enum-known-target
     returns
-    enum-known-j
+    enum-known-roll
     returns-2
     is-far-requires
     looking-at-geocentric-requires
     gives-frame-requires
-    enum-known-p-2
-    enum-known-q-2
+    enum-known-position-2
+    enum-known-target-2
     returns-3
-    enum-known-j-2
+    enum-known-roll-2
     returns-4
     looking-at-geodetic-requires
     gives-frame-requires-2

@@ -8,8 +8,8 @@ use borrow.Author.Needs.{needs}
 use Rattle.sheets.proofs.rows.frame_rows.apply_togeo.Statement.{statement}
 use Rattle.sheets.proofs.rows.frame_rows.apply_togeo.Tie as tie
 
-enum-known-p : tie.Need-enum-known-p
-enum-known-p c = search needs
+enum-known-position : tie.Need-enum-known-position
+enum-known-position c = search needs
 
 returns : tie.Need-returns
 unfolding table find hold
@@ -23,8 +23,8 @@ gives-geocentric-requires c κs = search needs
 
 returns-2 : tie.Need-returns-2
 unfolding table find hold
-returns-2 c = rw (c .gives-geocentric .ensures, is-𝐝 (c .before .before .before .p .given .1), c .before .geodetic-to-geocentric-position .ensures) refl
+returns-2 c = rw (c .gives-geocentric .ensures, is-𝐝 (c .before .before .before .position .given .1), c .before .geodetic-to-geocentric-position .ensures) refl
 
 pub apply-togeo-spec : {M : Type 1} → statement M
 apply-togeo-spec =
-    tie.close (tie.spec enum-known-p returns geodetic-to-geocentric-position-requires gives-geocentric-requires returns-2)
+    tie.close (tie.spec enum-known-position returns geodetic-to-geocentric-position-requires gives-geocentric-requires returns-2)

@@ -8,8 +8,8 @@ use borrow.Author.Needs.{needs}
 use Rattle.sheets.proofs.rows.frame_rows.apply_tolla.Statement.{statement}
 use Rattle.sheets.proofs.rows.frame_rows.apply_tolla.Tie as tie
 
-enum-known-p : tie.Need-enum-known-p
-enum-known-p c = search needs
+enum-known-position : tie.Need-enum-known-position
+enum-known-position c = search needs
 
 returns : tie.Need-returns
 unfolding table find hold
@@ -26,17 +26,17 @@ gives-geodetic-requires c κs = search needs
 
 returns-2 : tie.Need-returns-2
 unfolding table find hold
-returns-2 c = rw (c .gives-geodetic .ensures, is-𝐠 (c .before .before .before .before .before .p .given .1), sym (c .before .before .before .is-far .ensures) ∙ c .before .before .if1 .taken, c .before .geocentric-to-geodetic-position .ensures) refl
+returns-2 c = rw (c .gives-geodetic .ensures, is-𝐠 (c .before .before .before .before .before .position .given .1), sym (c .before .before .before .is-far .ensures) ∙ c .before .before .if1 .taken, c .before .geocentric-to-geodetic-position .ensures) refl
 
 returns-3 : tie.Need-returns-3
 unfolding table find hold
-returns-3 c = rw (is-𝐠 (c .before .before .before .p .given .1), sym (c .before .is-far .ensures) ∙ c .if1 .left) refl
+returns-3 c = rw (is-𝐠 (c .before .before .before .position .given .1), sym (c .before .is-far .ensures) ∙ c .if1 .left) refl
 
 pub apply-tolla-spec : {M : Type 1} → statement M
 apply-tolla-spec =
     tie.close
     (tie.spec
-    enum-known-p
+    enum-known-position
     returns
     is-far-requires
     geocentric-to-geodetic-position-requires

@@ -8,19 +8,19 @@ use borrow.Author.Needs.{needs}
 use Rattle.sheets.proofs.rows.frame_rows.apply_turn.Statement.{statement}
 use Rattle.sheets.proofs.rows.frame_rows.apply_turn.Tie as tie
 
-enum-known-p : tie.Need-enum-known-p
-enum-known-p c = search needs
+enum-known-frame : tie.Need-enum-known-frame
+enum-known-frame c = search needs
 
 returns : tie.Need-returns
 unfolding table find hold
 returns c = rw (not-𝐟 _ (c .match .keys2)) refl
 
-enum-known-q : tie.Need-enum-known-q
-enum-known-q c = search needs
+enum-known-angle : tie.Need-enum-known-angle
+enum-known-angle c = search needs
 
 returns-2 : tie.Need-returns-2
 unfolding table find hold
-returns-2 c = rw (is-𝐟 (c .before .before .p .given .1), not-𝐚 _ (c .match2 .keys2)) refl
+returns-2 c = rw (is-𝐟 (c .before .before .frame .given .1), not-𝐚 _ (c .match2 .keys2)) refl
 
 not-body-requires : tie.Need-not-body-requires
 not-body-requires c κs = search needs
@@ -33,19 +33,19 @@ gives-frame-requires c κs = search needs
 
 returns-3 : tie.Need-returns-3
 unfolding table find hold
-returns-3 c = rw (c .gives-frame .ensures, is-𝐟 (c .before .before .before .before .before .before .before .before .p .given .1), is-𝐚 (c .before .before .before .before .before .q .given .1), sym (c .before .before .before .not-body .ensures) ∙ c .before .before .if1 .taken, c .before .rotate-around-z .ensures) refl
+returns-3 c = rw (c .gives-frame .ensures, is-𝐟 (c .before .before .before .before .before .before .before .before .frame .given .1), is-𝐚 (c .before .before .before .before .before .angle .given .1), sym (c .before .before .before .not-body .ensures) ∙ c .before .before .if1 .taken, c .before .rotate-around-z .ensures) refl
 
 returns-4 : tie.Need-returns-4
 unfolding table find hold
-returns-4 c = rw (is-𝐟 (c .before .before .before .before .before .before .p .given .1), is-𝐚 (c .before .before .before .q .given .1), sym (c .before .not-body .ensures) ∙ c .if1 .left) refl
+returns-4 c = rw (is-𝐟 (c .before .before .before .before .before .before .frame .given .1), is-𝐚 (c .before .before .before .angle .given .1), sym (c .before .not-body .ensures) ∙ c .if1 .left) refl
 
 pub apply-turn-spec : {M : Type 1} → statement M
 apply-turn-spec =
     tie.close
     (tie.spec
-    enum-known-p
+    enum-known-frame
     returns
-    enum-known-q
+    enum-known-angle
     returns-2
     not-body-requires
     rotate-around-z-requires

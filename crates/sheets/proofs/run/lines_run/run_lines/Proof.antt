@@ -1,247 +1,176 @@
 -- `sheets::run::lines_run::run_lines` meets its contract. Assumes nothing.
-use native.Mathlib.Omega.{arith}
 use Prim.Native.Nat.{ℕ, _+_, _-_, _≤_}
+use native.Mathlib.Omega.{arith}
 use mathlib.Core.Path.{_≡_, refl, _∙_}
+use mathlib.Core.Logic.{inl, inr}
 use mathlib.Core.List.{List}
-use lib.ListN.{length, length-replicate}
+use lib.ListN.{length, length-set, length-replicate}
 use Rattle.sheets.specs.declared.answers.RunAnswer.{RunAnswer}
-use Rattle.sheets.specs.code.run.Slots.{noNames}
-use Rattle.sheets.specs.code.run.Running.{wordFound, Runs}
-use Rattle.sheets.proofs.run.OperandLaws.{Upto, upto-none, upto-skip, upto-put, Listed, listed-start, listed-let, listed-is}
-use Rattle.sheets.proofs.run.RunSteps.{runs-end, runs-over, runs-stops, runs-sticks, runs-gives, runs-shows, part-short, no-names-length, names-start}
+use Rattle.sheets.specs.code.run.Running.{Runs}
+use Rattle.sheets.proofs.reader.LineSteps.{head-says}
+use Rattle.sheets.proofs.run.RunSteps.{RunsFrom, runs-start, runs-end, runs-over, runs-bad, runs-let-not, runs-let, runs-show-not, runs-show}
 use borrow.Author.Needs.{needs}
+use borrow.Author.Tests.{ltb-true, ltb-false}
 use Rattle.sheets.proofs.run.lines_run.run_lines.Statement.{statement}
 use Rattle.sheets.proofs.run.lines_run.run_lines.Tie as tie
 
-abbrev Inv-loop2 : tie.InvT-loop2
-Inv-loop2 s start e readings out t words newest kinds₀ rows₀ at number n written to l p₀ kinds rows p = (length l ≤ 200) × Upto l kinds rows (wordFound t readings n) p
-
-abbrev μ-loop2 : tie.MeasureT-loop2
-μ-loop2 s start e readings out t words newest kinds₀ rows₀ at number n written to l p₀ kinds rows p = length l - p
-
 abbrev Inv-loop : tie.InvT-loop
-Inv-loop s start e readings out₀ t₀ words₀ newest₀ kinds₀ rows₀ at₀ number₀ n₀ written₀ out t words newest kinds rows at number n written = (length kinds ≡ 101) × (length rows ≡ 101) × Listed t words newest n × (n + 2 ≤ number) × (number ≤ 97) × (length out ≡ length out₀) × ((q : RunAnswer) (o : List ℕ) → Runs s e readings out₀ at number t n written out q o → Runs s e readings out₀ start 2 noNames 0 0 out₀ q o)
+Inv-loop s from e readings out₀ t₀ words₀ kinds₀ newest₀ floats₀ at₀ line₀ n₀ written₀ out t words kinds newest floats at line n written = (length t ≡ 96) × (n + 1 ≤ line) × (line ≤ 96) × (length out ≡ length out₀)
+    × ((q : RunAnswer) (o : List ℕ) → RunsFrom s e readings out₀ (record { at = at; line = line + 1; slots = t; words = words; kinds = kinds; newest = newest; floats = floats; n = n; written = written; out = out }) q o → Runs s from e readings out₀ q o)
 
 abbrev μ-loop : tie.MeasureT-loop
-μ-loop s start e readings out₀ t₀ words₀ newest₀ kinds₀ rows₀ at₀ number₀ n₀ written₀ out t words newest kinds rows at number n written = 97 - number
+μ-loop s from e readings out₀ t₀ words₀ kinds₀ newest₀ floats₀ at₀ line₀ n₀ written₀ out t words kinds newest floats at line n written = 96 - line
 
-no-names-requires : tie.Need-no-names-requires Inv-loop2 μ-loop2 Inv-loop μ-loop
-no-names-requires c κs = search needs
+empty-slot-requires : tie.Need-empty-slot-requires Inv-loop μ-loop
+empty-slot-requires c κs = search needs
 
-loop-holds : tie.Need-loop-holds Inv-loop2 μ-loop2 Inv-loop μ-loop
-loop-holds c = (simp length-replicate, simp length-replicate, listed-start _ (no-names-length _ (c .no-names .ensures)), omega arith, omega arith, refl, λ q o h. names-start _ _ _ _ _ _ (c .no-names .ensures) q o h)
+put-readings-requires : tie.Need-put-readings-requires Inv-loop μ-loop
+put-readings-requires c κs = search needs
 
-run-answer-requires : tie.Need-run-answer-requires Inv-loop2 μ-loop2 Inv-loop μ-loop
-run-answer-requires c κs = search needs
+loop-holds : tie.Need-loop-holds Inv-loop μ-loop
+loop-holds c = (simp length-replicate, omega arith, omega arith, refl, runs-start _ _ _ _ _ _ _ (c .put-readings .ensures))
 
-same-length : tie.Need-same-length Inv-loop2 μ-loop2 Inv-loop μ-loop
-same-length c = c .before .before .before .loop .inv .5
+add-line : tie.Need-add-line Inv-loop μ-loop
+add-line c = omega arith
 
-returns : tie.Need-returns Inv-loop2 μ-loop2 Inv-loop μ-loop
-returns c = c .before .before .before .loop .inv .6 _ _ (runs-end _ _ _ _ _ _ _ _ _ _ (c .before .if1 .taken) _ (c .run-answer .ensures))
+line-head-requires : tie.Need-line-head-requires Inv-loop μ-loop
+line-head-requires c κs = search needs
 
-next-line-requires : tie.Need-next-line-requires Inv-loop2 μ-loop2 Inv-loop μ-loop
-next-line-requires c κs = search needs
-
-sub-l : tie.Need-sub-l Inv-loop2 μ-loop2 Inv-loop μ-loop
-sub-l c = omega (arith, c .next-line .ensures .low, c .next-line .ensures .high (omega arith))
-
-part-l-start : tie.Need-part-l-start Inv-loop2 μ-loop2 Inv-loop μ-loop
-part-l-start c = omega (arith, c .next-line .ensures .low, c .next-line .ensures .high (omega arith))
-
-part-l-end : tie.Need-part-l-end Inv-loop2 μ-loop2 Inv-loop μ-loop
-part-l-end c = omega (arith, c .next-line .ensures .low, c .next-line .ensures .high (omega arith))
-
-loop2-holds : tie.Need-loop2-holds Inv-loop2 μ-loop2 Inv-loop μ-loop
-loop2-holds c = (part-short _ _ _ (c .before .next-line .ensures), upto-none _ _ _ _ (c .before .before .before .before .loop .inv .0) (c .before .before .before .before .loop .inv .1))
-
-word-slot-requires : tie.Need-word-slot-requires Inv-loop2 μ-loop2 Inv-loop μ-loop
-word-slot-requires c κs = search needs
-
-enum-known-w : tie.Need-enum-known-w Inv-loop2 μ-loop2 Inv-loop μ-loop
-enum-known-w c = search needs
-
-enum-told : tie.Need-enum-told Inv-loop2 μ-loop2 Inv-loop μ-loop
+enum-told : tie.Need-enum-told Inv-loop μ-loop
 enum-told c = search needs
 
-add-p : tie.Need-add-p Inv-loop2 μ-loop2 Inv-loop μ-loop
-add-p c = omega arith
+run-answer-requires : tie.Need-run-answer-requires Inv-loop μ-loop
+run-answer-requires c κs = search needs
 
-loop2-less : tie.Need-loop2-less Inv-loop2 μ-loop2 Inv-loop μ-loop
-loop2-less c = omega arith
+same-length : tie.Need-same-length Inv-loop μ-loop
+same-length c = c .before .before .before .before .before .before .loop .inv .3
 
-loop2-again : tie.Need-loop2-again Inv-loop2 μ-loop2 Inv-loop μ-loop
-loop2-again c = (c .before .before .before .before .loop2 .inv .0, upto-skip _ _ _ _ _ (c .before .before .before .before .loop2 .inv .1) _ (c .before .before .word-slot .ensures) (c .enum-told .given .1))
+returns : tie.Need-returns Inv-loop μ-loop
+returns c = c .before .before .before .before .before .before .loop .inv .4 _ _ (runs-bad (ltb-true _ _ (c .before .before .before .before .if1 .taken)) (head-says _ _ _ (c .before .before .before .line-head .ensures) _ (c .before .enum-told .given .1)) _ _)
 
-word-place-requires : tie.Need-word-place-requires Inv-loop2 μ-loop2 Inv-loop μ-loop
-word-place-requires c κs = search needs
+enum-known-name : tie.Need-enum-known-name Inv-loop μ-loop
+enum-known-name c = search needs
 
-mul-x : tie.Need-mul-x Inv-loop2 μ-loop2 Inv-loop μ-loop
-mul-x c = search needs
-
-array-copy-out-x : tie.Need-array-copy-out-x Inv-loop2 μ-loop2 Inv-loop μ-loop
-array-copy-out-x c = omega (arith, c .word-place .ensures .most, c .before .before .before .before .before .before .before .before .before .before .before .before .before .loop .inv .2 .slots)
-
-slot-or-reading-requires : tie.Need-slot-or-reading-requires Inv-loop2 μ-loop2 Inv-loop μ-loop
-slot-or-reading-requires c κs = search needs
-
-add-put-found : tie.Need-add-put-found Inv-loop2 μ-loop2 Inv-loop μ-loop
-add-put-found c = omega arith
-
-put-found-requires : tie.Need-put-found-requires Inv-loop2 μ-loop2 Inv-loop μ-loop
-put-found-requires c κs = omega (arith, c .before .before .before .before .before .before .before .before .before .before .before .before .loop2 .inv .0)
-
-add-p-2 : tie.Need-add-p-2 Inv-loop2 μ-loop2 Inv-loop μ-loop
-add-p-2 c = omega arith
-
-loop2-less-2 : tie.Need-loop2-less-2 Inv-loop2 μ-loop2 Inv-loop μ-loop
-loop2-less-2 c = omega arith
-
-loop2-again-2 : tie.Need-loop2-again-2 Inv-loop2 μ-loop2 Inv-loop μ-loop
-loop2-again-2 c = (c .before .before .before .before .before .before .before .before .before .before .before .before .before .loop2 .inv .0, upto-put _ _ _ _ _ (c .before .before .before .before .before .before .before .before .before .before .before .before .before .loop2 .inv .1) (omega (arith, c .before .before .before .before .before .before .before .before .before .before .before .before .before .loop2 .inv .0)) _ (c .before .before .before .before .before .before .before .before .before .before .before .word-slot .ensures) _ _ (c .before .before .before .before .before .before .before .before .before .w .given .1) _ (listed-is _ _ _ _ (c .before .before .before .before .before .before .before .before .before .before .before .before .before .before .before .before .before .before .loop .inv .2) _ _ (c .before .before .before .before .before .word-place .ensures) _ _ _ (c .before .before .before .slot-or-reading .ensures)) _ (c .put-found .ensures .0) _ (c .put-found .ensures .1))
-
-line-effect-requires : tie.Need-line-effect-requires Inv-loop2 μ-loop2 Inv-loop μ-loop
-line-effect-requires c κs = search needs
-
-enum-told-2 : tie.Need-enum-told-2 Inv-loop2 μ-loop2 Inv-loop μ-loop
-enum-told-2 c = search needs
-
-run-answer-requires-2 : tie.Need-run-answer-requires-2 Inv-loop2 μ-loop2 Inv-loop μ-loop
-run-answer-requires-2 c κs = search needs
-
-same-length-2 : tie.Need-same-length-2 Inv-loop2 μ-loop2 Inv-loop μ-loop
-same-length-2 c = c .before .before .before .before .before .before .before .before .before .before .before .before .loop .inv .5
-
-returns-2 : tie.Need-returns-2 Inv-loop2 μ-loop2 Inv-loop μ-loop
-returns-2 c = c .before .before .before .before .before .before .before .before .before .before .before .before .loop .inv .6 _ _ (runs-sticks _ _ _ _ _ _ _ _ _ _ (omega (arith, c .before .before .before .before .before .before .before .before .before .before .before .before .loop .inv .3)) (c .before .before .before .before .before .before .before .before .before .before .before .loop-test .taken) (c .before .before .before .before .before .before .before .before .before .before .if1 .left) _ (c .before .before .before .before .before .before .before .before .before .next-line .ensures) _ _ _ (c .before .before .before .before .before .before .loop2-test .left) (c .before .before .before .before .before .before .before .loop2 .inv .1) _ (c .before .before .before .line-effect .ensures) (c .before .enum-told2 .given .1) _)
-
-enum-known-r : tie.Need-enum-known-r Inv-loop2 μ-loop2 Inv-loop μ-loop
-enum-known-r c = search needs
-
-run-answer-requires-3 : tie.Need-run-answer-requires-3 Inv-loop2 μ-loop2 Inv-loop μ-loop
-run-answer-requires-3 c κs = search needs
-
-same-length-3 : tie.Need-same-length-3 Inv-loop2 μ-loop2 Inv-loop μ-loop
-same-length-3 c = c .before .before .before .before .before .before .before .before .before .before .before .before .before .loop .inv .5
-
-returns-3 : tie.Need-returns-3 Inv-loop2 μ-loop2 Inv-loop μ-loop
-returns-3 c = c .before .before .before .before .before .before .before .before .before .before .before .before .before .loop .inv .6 _ _ (runs-stops _ _ _ _ _ _ _ _ _ _ (omega (arith, c .before .before .before .before .before .before .before .before .before .before .before .before .before .loop .inv .3)) (c .before .before .before .before .before .before .before .before .before .before .before .before .loop-test .taken) (c .before .before .before .before .before .before .before .before .before .before .before .if1 .left) _ (c .before .before .before .before .before .before .before .before .before .before .next-line .ensures) _ _ _ (c .before .before .before .before .before .before .before .loop2-test .left) (c .before .before .before .before .before .before .before .before .loop2 .inv .1) _ (c .before .before .before .before .line-effect .ensures) _ (c .before .before .r .given .1) _ (c .run-answer3 .ensures))
-
-enum-known-r-2 : tie.Need-enum-known-r-2 Inv-loop2 μ-loop2 Inv-loop μ-loop
-enum-known-r-2 c = search needs
-
-add-n : tie.Need-add-n Inv-loop2 μ-loop2 Inv-loop μ-loop
+add-n : tie.Need-add-n Inv-loop μ-loop
 add-n c = omega arith
 
-mul-t : tie.Need-mul-t Inv-loop2 μ-loop2 Inv-loop μ-loop
-mul-t c = search needs
+mul-let-value : tie.Need-mul-let-value Inv-loop μ-loop
+mul-let-value c = omega (arith, c .before .before .before .before .before .before .before .before .before .before .loop .inv .1, c .before .before .before .before .before .before .before .before .before .loop-test .taken)
 
-array-set-from-t : tie.Need-array-set-from-t Inv-loop2 μ-loop2 Inv-loop μ-loop
-array-set-from-t c = omega (arith, c .before .before .before .before .before .before .before .before .before .before .before .before .loop .inv .2 .slots, c .before .before .before .before .before .before .before .before .before .before .before .before .loop .inv .3, c .before .before .before .before .before .before .before .before .before .before .before .loop-test .taken)
+let-value-requires : tie.Need-let-value-requires Inv-loop μ-loop
+let-value-requires c κs = omega (arith, c .before .before .before .before .before .before .before .before .before .before .loop .inv .1, c .before .before .before .before .before .before .before .before .before .loop-test .taken)
 
-mul-words : tie.Need-mul-words Inv-loop2 μ-loop2 Inv-loop μ-loop
-mul-words c = search needs
+enum-known-r : tie.Need-enum-known-r Inv-loop μ-loop
+enum-known-r c = search needs
 
-array-write-words : tie.Need-array-write-words Inv-loop2 μ-loop2 Inv-loop μ-loop
-array-write-words c = omega (arith, c .before .before .before .before .before .before .before .before .before .before .before .before .loop .inv .2 .size, c .before .before .before .before .before .before .before .before .before .before .before .before .loop .inv .3, c .before .before .before .before .before .before .before .before .before .before .before .loop-test .taken)
+stopped-requires : tie.Need-stopped-requires Inv-loop μ-loop
+stopped-requires c κs = search needs
 
-cast-put-newest : tie.Need-cast-put-newest Inv-loop2 μ-loop2 Inv-loop μ-loop
-cast-put-newest c = omega (arith, c .before .before .before .before .before .before .before .before .before .before .before .before .before .loop .inv .3, c .before .before .before .before .before .before .before .before .before .before .before .before .loop-test .taken)
+same-length-2 : tie.Need-same-length-2 Inv-loop μ-loop
+same-length-2 c = c .before .before .before .before .before .before .before .before .before .before .before .before .before .loop .inv .3
 
-put-newest-requires : tie.Need-put-newest-requires Inv-loop2 μ-loop2 Inv-loop μ-loop
-put-newest-requires c κs = search needs
+returns-2 : tie.Need-returns-2 Inv-loop μ-loop
+returns-2 c = c .before .before .before .before .before .before .before .before .before .before .before .before .before .loop .inv .4 _ _ (runs-let-not (ltb-true _ _ (c .before .before .before .before .before .before .before .before .before .before .before .if1 .taken)) _ _ (head-says _ _ _ (c .before .before .before .before .before .before .before .before .before .before .line-head .ensures) _ (c .before .before .before .before .before .before .before .before .name .given .1)) _ _ (c .before .before .let-value .ensures) (c .before .match2 .keys2) _ (c .stopped .ensures))
 
-add-number : tie.Need-add-number Inv-loop2 μ-loop2 Inv-loop μ-loop
-add-number c = omega arith
+give-requires : tie.Need-give-requires Inv-loop μ-loop
+give-requires c κs = omega (arith, c .before .before .before .before .before .before .before .before .before .before .before .before .before .before .before .before .before .before .loop .inv .1, c .before .before .before .before .before .before .before .before .before .before .before .before .before .before .before .before .before .loop-test .taken)
 
-loop-less : tie.Need-loop-less Inv-loop2 μ-loop2 Inv-loop μ-loop
-loop-less c = omega arith
+mul-t : tie.Need-mul-t Inv-loop μ-loop
+mul-t c = omega (arith, c .before .before .before .before .before .before .before .before .before .before .before .before .before .before .before .before .before .before .before .loop .inv .1, c .before .before .before .before .before .before .before .before .before .before .before .before .before .before .before .before .before .before .loop-test .taken)
 
-loop-again : tie.Need-loop-again Inv-loop2 μ-loop2 Inv-loop μ-loop
-loop-again c = (c .before .before .before .before .before .before .before .before .before .loop2 .inv .1 .kinds, c .before .before .before .before .before .before .before .before .before .loop2 .inv .1 .rows, listed-let _ _ _ _ (c .before .before .before .before .before .before .before .before .before .before .before .before .before .before .loop .inv .2) (omega (arith, c .before .before .before .before .before .before .before .before .before .before .before .before .before .before .loop .inv .3, c .before .before .before .before .before .before .before .before .before .before .before .before .before .loop-test .taken)) _ _ refl _ (c .put-newest .ensures), omega (arith, c .before .before .before .before .before .before .before .before .before .before .before .before .before .before .loop .inv .3), omega arith, c .before .before .before .before .before .before .before .before .before .before .before .before .before .before .loop .inv .5, λ q o h. c .before .before .before .before .before .before .before .before .before .before .before .before .before .before .loop .inv .6 q o (runs-gives _ _ _ _ _ _ _ _ _ _ (omega (arith, c .before .before .before .before .before .before .before .before .before .before .before .before .before .before .loop .inv .3)) (c .before .before .before .before .before .before .before .before .before .before .before .before .before .loop-test .taken) (c .before .before .before .before .before .before .before .before .before .before .before .before .if1 .left) _ (c .before .before .before .before .before .before .before .before .before .before .before .next-line .ensures) _ _ _ (c .before .before .before .before .before .before .before .before .loop2-test .left) (c .before .before .before .before .before .before .before .before .before .loop2 .inv .1) _ (c .before .before .before .before .before .line-effect .ensures) _ _ (c .before .before .before .r2 .given .1) (omega (arith, c .before .before .before .before .before .before .before .before .before .before .before .before .before .before .loop .inv .2 .slots, c .before .before .before .before .before .before .before .before .before .before .before .before .before .before .loop .inv .3, c .before .before .before .before .before .before .before .before .before .before .before .before .before .loop-test .taken)) _ refl q o h))
+array-set-from-t : tie.Need-array-set-from-t Inv-loop μ-loop
+array-set-from-t c = omega (arith, c .before .before .before .before .before .before .before .before .before .before .before .before .before .before .before .before .before .before .before .loop .inv .0, c .before .before .before .before .before .before .before .before .before .before .before .before .before .before .before .before .before .before .before .loop .inv .1, c .before .before .before .before .before .before .before .before .before .before .before .before .before .before .before .before .before .before .loop-test .taken)
 
-enum-known-r-3 : tie.Need-enum-known-r-3 Inv-loop2 μ-loop2 Inv-loop μ-loop
-enum-known-r-3 c = search needs
+loop-less : tie.Need-loop-less Inv-loop μ-loop
+loop-less c = omega (arith, c .before .before .before .before .before .before .before .before .before .before .before .before .before .before .before .before .before .before .loop-test .taken)
 
-output-line-requires : tie.Need-output-line-requires Inv-loop2 μ-loop2 Inv-loop μ-loop
-output-line-requires c κs = search needs
+loop-again : tie.Need-loop-again Inv-loop μ-loop
+loop-again c = (simp length-set (c .before .before .before .before .before .before .before .before .before .before .before .before .before .before .before .before .before .before .before .loop .inv .0), omega (arith, c .before .before .before .before .before .before .before .before .before .before .before .before .before .before .before .before .before .before .before .loop .inv .1), omega (arith, c .before .before .before .before .before .before .before .before .before .before .before .before .before .before .before .before .before .before .loop-test .taken), c .before .before .before .before .before .before .before .before .before .before .before .before .before .before .before .before .before .before .before .loop .inv .3, λ q o k. c .before .before .before .before .before .before .before .before .before .before .before .before .before .before .before .before .before .before .before .loop .inv .4 q o (runs-let (ltb-true _ _ (c .before .before .before .before .before .before .before .before .before .before .before .before .before .before .before .before .before .if1 .taken)) _ _ (head-says _ _ _ (c .before .before .before .before .before .before .before .before .before .before .before .before .before .before .before .before .line-head .ensures) _ (c .before .before .before .before .before .before .before .before .before .before .before .before .before .before .name .given .1)) _ _ (c .before .before .before .before .before .before .before .before .let-value .ensures) _ _ (c .before .before .before .before .before .before .r .given .1) (omega (arith, c .before .before .before .before .before .before .before .before .before .before .before .before .before .before .before .before .before .before .before .loop .inv .1, c .before .before .before .before .before .before .before .before .before .before .before .before .before .before .before .before .before .before .loop-test .taken)) _ _ _ _ (c .give .ensures) q o k))
 
-add-number-2 : tie.Need-add-number-2 Inv-loop2 μ-loop2 Inv-loop μ-loop
-add-number-2 c = omega arith
+enum-known-name-2 : tie.Need-enum-known-name-2 Inv-loop μ-loop
+enum-known-name-2 c = search needs
 
-loop-less-2 : tie.Need-loop-less-2 Inv-loop2 μ-loop2 Inv-loop μ-loop
-loop-less-2 c = omega arith
+word-place-requires : tie.Need-word-place-requires Inv-loop μ-loop
+word-place-requires c κs = search needs
 
-loop-again-2 : tie.Need-loop-again-2 Inv-loop2 μ-loop2 Inv-loop μ-loop
-loop-again-2 c = (c .before .before .before .before .before .before .before .before .before .before .before .loop2 .inv .1 .kinds, c .before .before .before .before .before .before .before .before .before .before .before .loop2 .inv .1 .rows, c .before .before .before .before .before .before .before .before .before .before .before .before .before .before .before .before .loop .inv .2, omega (arith, c .before .before .before .before .before .before .before .before .before .before .before .before .before .before .before .before .loop .inv .3), omega arith, c .before .before .output-line .kept .1 .1 .1 .1 .0 ∙ c .before .before .before .before .before .before .before .before .before .before .before .before .before .before .before .before .loop .inv .5, λ q o h. c .before .before .before .before .before .before .before .before .before .before .before .before .before .before .before .before .loop .inv .6 q o (runs-shows _ _ _ _ _ _ _ _ _ _ (omega (arith, c .before .before .before .before .before .before .before .before .before .before .before .before .before .before .before .before .loop .inv .3)) (c .before .before .before .before .before .before .before .before .before .before .before .before .before .before .before .loop-test .taken) (c .before .before .before .before .before .before .before .before .before .before .before .before .before .before .if1 .left) _ (c .before .before .before .before .before .before .before .before .before .before .before .before .before .next-line .ensures) _ _ _ (c .before .before .before .before .before .before .before .before .before .before .loop2-test .left) (c .before .before .before .before .before .before .before .before .before .before .before .loop2 .inv .1) _ (c .before .before .before .before .before .before .before .line-effect .ensures) _ _ (c .before .before .before .before .before .r3 .given .1) _ _ (c .before .before .output-line .ensures) q o h))
+mul-show : tie.Need-mul-show Inv-loop μ-loop
+mul-show c = search needs
 
-run-answer-requires-4 : tie.Need-run-answer-requires-4 Inv-loop2 μ-loop2 Inv-loop μ-loop
-run-answer-requires-4 c κs = search needs
+array-copy-out-show : tie.Need-array-copy-out-show Inv-loop μ-loop
+array-copy-out-show c = omega (arith, c .word-place .ensures .most, c .before .before .before .before .before .before .before .before .before .loop .inv .0)
 
-same-length-4 : tie.Need-same-length-4 Inv-loop2 μ-loop2 Inv-loop μ-loop
-same-length-4 c = c .before .before .loop .inv .5
+show-requires : tie.Need-show-requires Inv-loop μ-loop
+show-requires c κs = search needs
 
-returns-4 : tie.Need-returns-4 Inv-loop2 μ-loop2 Inv-loop μ-loop
-returns-4 c = c .before .before .loop .inv .6 _ _ (runs-over _ _ _ _ _ _ _ _ _ _ (c .before .loop-test .left) _ (c .run-answer4 .ensures))
+enum-known-r-2 : tie.Need-enum-known-r-2 Inv-loop μ-loop
+enum-known-r-2 c = search needs
+
+stopped-requires-2 : tie.Need-stopped-requires-2 Inv-loop μ-loop
+stopped-requires-2 c κs = search needs
+
+same-length-3 : tie.Need-same-length-3 Inv-loop μ-loop
+same-length-3 c = c .before .before .before .before .show .kept .1 .1 .1 .1 .1 .0 ∙ c .before .before .before .before .before .before .before .before .before .before .before .before .before .before .before .before .loop .inv .3
+
+returns-3 : tie.Need-returns-3 Inv-loop μ-loop
+returns-3 c = c .before .before .before .before .before .before .before .before .before .before .before .before .before .before .before .before .loop .inv .4 _ _ (runs-show-not (ltb-true _ _ (c .before .before .before .before .before .before .before .before .before .before .before .before .before .before .if1 .taken)) _ (c .before .before .before .before .before .before .before .before .before .before .before .before .before .line-head .ensures) _ _ (c .before .before .before .before .before .before .before .before .before .before .before .name2 .given .1) _ (c .before .before .before .before .before .before .before .word-place .ensures) _ _ _ (c .before .before .before .before .show .ensures) (c .before .match3 .keys2) _ (c .stopped2 .ensures))
+
+loop-less-2 : tie.Need-loop-less-2 Inv-loop μ-loop
+loop-less-2 c = omega (arith, c .before .before .before .before .before .before .before .before .before .before .before .before .before .before .before .before .loop-test .taken)
+
+loop-again-2 : tie.Need-loop-again-2 Inv-loop μ-loop
+loop-again-2 c = (c .before .before .before .before .before .before .before .before .before .before .before .before .before .before .before .before .before .loop .inv .0, omega (arith, c .before .before .before .before .before .before .before .before .before .before .before .before .before .before .before .before .before .loop .inv .1), omega (arith, c .before .before .before .before .before .before .before .before .before .before .before .before .before .before .before .before .loop-test .taken), c .before .before .before .before .before .show .kept .1 .1 .1 .1 .1 .0 ∙ c .before .before .before .before .before .before .before .before .before .before .before .before .before .before .before .before .before .loop .inv .3, λ q o k. c .before .before .before .before .before .before .before .before .before .before .before .before .before .before .before .before .before .loop .inv .4 q o (runs-show (ltb-true _ _ (c .before .before .before .before .before .before .before .before .before .before .before .before .before .before .before .if1 .taken)) _ (c .before .before .before .before .before .before .before .before .before .before .before .before .before .before .line-head .ensures) _ _ (c .before .before .before .before .before .before .before .before .before .before .before .before .name2 .given .1) _ (c .before .before .before .before .before .before .before .before .word-place .ensures) _ _ _ (c .before .before .before .before .before .show .ensures) (omega (arith, c .before .before .before .before .before .before .before .before .before .before .before .before .before .before .before .before .before .loop .inv .1)) (omega (arith, c .before .before .before .before .before .before .before .before .before .before .before .before .before .before .before .before .loop-test .taken)) _ _ (c .before .r2 .given .1) q o k))
+
+run-answer-requires-2 : tie.Need-run-answer-requires-2 Inv-loop μ-loop
+run-answer-requires-2 c κs = search needs
+
+same-length-4 : tie.Need-same-length-4 Inv-loop μ-loop
+same-length-4 c = c .before .before .loop .inv .3
+
+returns-4 : tie.Need-returns-4 Inv-loop μ-loop
+returns-4 c = elim (c .before .loop-test .came) [
+  | inl w ↦ c .before .before .loop .inv .4 _ _ (runs-end (ltb-false _ _ (w .1 .left)) _ (c .run-answer2 .ensures))
+  | inr w ↦ c .before .before .loop .inv .4 _ _ (runs-over (omega (arith, w .left)) _ (c .run-answer2 .ensures))
+]
 
 pub run-lines-spec : {M : Type 1} → statement M
 run-lines-spec =
     tie.close
     (tie.spec
-    Inv-loop2
-    μ-loop2
     Inv-loop
     μ-loop
-    no-names-requires
+    empty-slot-requires
+    put-readings-requires
     loop-holds
+    add-line
+    line-head-requires
+    enum-told
     run-answer-requires
     same-length
     returns
-    next-line-requires
-    sub-l
-    part-l-start
-    part-l-end
-    loop2-holds
-    word-slot-requires
-    enum-known-w
-    enum-told
-    add-p
-    loop2-less
-    loop2-again
-    word-place-requires
-    mul-x
-    array-copy-out-x
-    slot-or-reading-requires
-    add-put-found
-    put-found-requires
-    add-p-2
-    loop2-less-2
-    loop2-again-2
-    line-effect-requires
-    enum-told-2
-    run-answer-requires-2
+    enum-known-name
+    add-n
+    mul-let-value
+    let-value-requires
+    enum-known-r
+    stopped-requires
     same-length-2
     returns-2
-    enum-known-r
-    run-answer-requires-3
-    same-length-3
-    returns-3
-    enum-known-r-2
-    add-n
+    give-requires
     mul-t
     array-set-from-t
-    mul-words
-    array-write-words
-    cast-put-newest
-    put-newest-requires
-    add-number
     loop-less
     loop-again
-    enum-known-r-3
-    output-line-requires
-    add-number-2
+    enum-known-name-2
+    word-place-requires
+    mul-show
+    array-copy-out-show
+    show-requires
+    enum-known-r-2
+    stopped-requires-2
+    same-length-3
+    returns-3
     loop-less-2
     loop-again-2
-    run-answer-requires-4
+    run-answer-requires-2
     same-length-4
     returns-4)

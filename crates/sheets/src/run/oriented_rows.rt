@@ -1,0 +1,187 @@
+// The rows over vectors and frames, as in plain_rows.rt; the arguments share their orientation.
+use crate::reader::words;
+use crate::rows;
+use crate::rows::args::Axis;
+use crate::rows::frame_rows;
+use crate::run::eval::Evaluated;
+use crate::run::floats::angle_at;
+use crate::run::floats::frame_at;
+use crate::run::floats::geocentric_at;
+use crate::run::floats::number_at;
+use crate::run::floats::vector_at;
+use crate::run::laid::laid;
+use frames::ellipsoid::Ellipsoid;
+use frames::orientation::Orientation;
+ghost use mathlib.Core.List.{[], _∷_};
+ghost use Prim.Native.Nat.{_+_, _≤_};
+ghost use Rattle.sheets.specs.Kinds.{number, angle, geocentric, vector, frame};
+ghost use Rattle.sheets.specs.code.run.Evaluating.{RowLaid};
+
+// v: neg, swap, bearing, elev, range.
+pub fn vector_row(
+    e: Ellipsoid,
+    code: u64,
+    o: Orientation,
+    f: &mut [f64; 2940],
+    at: usize,
+    end: usize,
+) -> Evaluated
+    requires { ⌜ at + 105 ≤ 2940 ⌝ }
+    ensures { λ r. ⌜ RowLaid e code (vector o ∷ []) (now (f .entry)) at end r (now (f .exit)) ⌝ }
+{
+    let v = vector_at(f, at, o);
+    match code {
+        words::NEG => laid(5, rows::apply_neg(e, v), f, at, end),
+        words::SWAP => laid(5, rows::apply_swap(e, v), f, at, end),
+        words::BEARING => laid(1, rows::apply_bearing(e, v), f, at, end),
+        words::ELEV => laid(1, rows::apply_elev(e, v), f, at, end),
+        words::RANGE => laid(2, rows::apply_range(e, v), f, at, end),
+        _ => Evaluated::Sticks,
+    }
+}
+
+// v v: add, sub.
+pub fn vectors_row(
+    e: Ellipsoid,
+    code: u64,
+    o: Orientation,
+    f: &mut [f64; 2940],
+    at: usize,
+    end: usize,
+) -> Evaluated
+    requires { ⌜ at + 105 ≤ 2940 ⌝ }
+    ensures { λ r. ⌜ RowLaid e code (vector o ∷ vector o ∷ []) (now (f .entry)) at end r (now (f .exit)) ⌝ }
+{
+    let v = vector_at(f, at, o);
+    let w = vector_at(f, at + 21, o);
+    match code {
+        words::ADD => laid(5, rows::apply_sum(e, false, v, w), f, at, end),
+        words::SUB => laid(5, rows::apply_sum(e, true, v, w), f, at, end),
+        _ => Evaluated::Sticks,
+    }
+}
+
+// v n: scale.
+pub fn scale_row(
+    e: Ellipsoid,
+    code: u64,
+    o: Orientation,
+    f: &mut [f64; 2940],
+    at: usize,
+    end: usize,
+) -> Evaluated
+    requires { ⌜ at + 105 ≤ 2940 ⌝ }
+    ensures { λ r. ⌜ RowLaid e code (vector o ∷ number ∷ []) (now (f .entry)) at end r (now (f .exit)) ⌝ }
+{
+    let v = vector_at(f, at, o);
+    let x = number_at(f, at + 21);
+    if code == words::SCALE {
+        return laid(5, rows::apply_scale(e, v, x), f, at, end);
+    }
+    Evaluated::Sticks
+}
+
+// f: origin, rz, ry, rx.
+pub fn frame_row(
+    e: Ellipsoid,
+    code: u64,
+    o: Orientation,
+    f: &mut [f64; 2940],
+    at: usize,
+    end: usize,
+) -> Evaluated
+    requires { ⌜ at + 105 ≤ 2940 ⌝ }
+    ensures { λ r. ⌜ RowLaid e code (frame o ∷ []) (now (f .entry)) at end r (now (f .exit)) ⌝ }
+{
+    let p = frame_at(f, at, o);
+    match code {
+        words::ORIGIN => laid(3, rows::apply_origin(e, p), f, at, end),
+        words::RZ => laid(1, rows::apply_angle(e, Axis::Z, p), f, at, end),
+        words::RY => laid(1, rows::apply_angle(e, Axis::Y, p), f, at, end),
+        words::RX => laid(1, rows::apply_angle(e, Axis::X, p), f, at, end),
+        _ => Evaluated::Sticks,
+    }
+}
+
+// f a: turn.
+pub fn turn_row(
+    e: Ellipsoid,
+    code: u64,
+    o: Orientation,
+    f: &mut [f64; 2940],
+    at: usize,
+    end: usize,
+) -> Evaluated
+    requires { ⌜ at + 105 ≤ 2940 ⌝ }
+    ensures { λ r. ⌜ RowLaid e code (frame o ∷ angle ∷ []) (now (f .entry)) at end r (now (f .exit)) ⌝ }
+{
+    let p = frame_at(f, at, o);
+    let x = angle_at(f, at + 21);
+    if code == words::TURN {
+        return laid(6, frame_rows::apply_turn(e, p, x), f, at, end);
+    }
+    Evaluated::Sticks
+}
+
+// f g: to.
+pub fn to_row(
+    e: Ellipsoid,
+    code: u64,
+    o: Orientation,
+    f: &mut [f64; 2940],
+    at: usize,
+    end: usize,
+) -> Evaluated
+    requires { ⌜ at + 105 ≤ 2940 ⌝ }
+    ensures { λ r. ⌜ RowLaid e code (frame o ∷ geocentric ∷ []) (now (f .entry)) at end r (now (f .exit)) ⌝ }
+{
+    let p = frame_at(f, at, o);
+    let g = geocentric_at(f, at + 21);
+    if code == words::TO {
+        return laid(5, rows::apply_to(e, p, g), f, at, end);
+    }
+    Evaluated::Sticks
+}
+
+// f v: at.
+pub fn at_row(
+    e: Ellipsoid,
+    code: u64,
+    o: Orientation,
+    f: &mut [f64; 2940],
+    at: usize,
+    end: usize,
+) -> Evaluated
+    requires { ⌜ at + 105 ≤ 2940 ⌝ }
+    ensures { λ r. ⌜ RowLaid e code (frame o ∷ vector o ∷ []) (now (f .entry)) at end r (now (f .exit)) ⌝ }
+{
+    let p = frame_at(f, at, o);
+    let v = vector_at(f, at + 21, o);
+    if code == words::AT {
+        return laid(3, rows::apply_at(e, p, v), f, at, end);
+    }
+    Evaluated::Sticks
+}
+
+// f v a a a: move.
+pub fn move_row(
+    e: Ellipsoid,
+    code: u64,
+    o: Orientation,
+    f: &mut [f64; 2940],
+    at: usize,
+    end: usize,
+) -> Evaluated
+    requires { ⌜ at + 105 ≤ 2940 ⌝ }
+    ensures { λ r. ⌜ RowLaid e code (frame o ∷ vector o ∷ angle ∷ angle ∷ angle ∷ []) (now (f .entry)) at end r (now (f .exit)) ⌝ }
+{
+    let p = frame_at(f, at, o);
+    let v = vector_at(f, at + 21, o);
+    let x = angle_at(f, at + 42);
+    let y = angle_at(f, at + 63);
+    let z = angle_at(f, at + 84);
+    if code == words::MOVE {
+        return laid(6, frame_rows::apply_move(e, p, v, x, y, z), f, at, end);
+    }
+    Evaluated::Sticks
+}
