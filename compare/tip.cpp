@@ -17,7 +17,7 @@ static const std::string tip_sheet = line_1 + "(let c (lla (deg r0) (deg r1) (m 
                                               "(let t (tolla (at (enu c) (aenu (deg r3) (deg r4) (m r5)))))\n"
                                               "(show t)\n";
 
-// Rounds of so many calls of each side in turn, and so many tips that are held together.
+// A round is so many calls of each side in turn; so many tips of each sort are held to GeographicLib's.
 static const int calls = 50;
 static const int rounds = 8000;
 static const int tried = 1000;
@@ -157,7 +157,9 @@ static double greatest(Readings (*make)())
     for (int i = 0; i < tried; i++) {
         const Readings r = make();
         const double d = apart(shown(r), geographic(r));
-        if (!(d <= most))
+        if (std::isnan(d))
+            return d;
+        if (d > most)
             most = d;
     }
     return most;
@@ -204,8 +206,8 @@ int main()
         std::printf("  %-24s %8.3f %7.2f\n", names[k], best[k], best[0] / best[k]);
     const double site = greatest(bore), earth = greatest(anywhere);
     std::printf("the sheet's tip and GeographicLib's, the greatest distance of %d: at one site %.2e m, anywhere %.2e m\n", tried, site, earth);
-    if (site < 0.001 && earth < 0.001)
+    if (site < 0.000001 && earth < 0.000001)
         return 0;
-    std::printf("tip: that is a millimetre or more\n");
+    std::printf("tip: that is a micrometre or more\n");
     return 1;
 }

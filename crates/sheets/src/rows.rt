@@ -140,7 +140,7 @@ pub fn apply_neg(e: Ellipsoid, vector: Value) -> Applied
     gives_vector(v.neg())
 }
 
-// add, sub
+// add where `minus` is false, sub where it is true.
 pub fn apply_sum(e: Ellipsoid, minus: bool, v: Value, w: Value) -> Applied
     ensures { λ r. ⌜ r ≡ applied e (find table (sumWord minus) (v ∷ w ∷ [])) ⌝ }
 {

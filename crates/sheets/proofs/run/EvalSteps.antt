@@ -30,7 +30,7 @@ use Rattle.sheets.specs.code.reader.Views.{place, coded, doubled}
 use Rattle.sheets.specs.code.check.Newest as Search
 use Rattle.sheets.specs.code.run.Slots.{emptySlot}
 use Rattle.sheets.specs.code.run.Floats.{floatAt, valueAt, Copied}
-use Rattle.sheets.specs.code.run.Known.{foundOf, readingIndex, readingFound, wordFound, Placed, Ready}
+use Rattle.sheets.specs.code.run.Known.{foundOf, readingIndex, readingFound, wordFound, SlotListed, Ready}
 use Rattle.sheets.specs.code.run.Evaluating.{Answers, testedAt, KnownWith, LeafWith, EvalsWith}
 use Rattle.sheets.proofs.reader.ReaderLaws.{expr-leaf}
 use Rattle.sheets.proofs.reader.Viewed.{coded-none, coded-got, doubled-none, doubled-got}

@@ -20,7 +20,7 @@ use Rattle.sheets.specs.code.check.Newest.{Newest, placeFrom}
 use Rattle.sheets.specs.code.check.Newest as Search
 use Rattle.sheets.specs.code.run.Slots.{emptySlot}
 use Rattle.sheets.specs.code.run.Floats.{floatAt, Lies, KeptBelow}
-use Rattle.sheets.specs.code.run.Known.{wordFound, readingFound, Placed, Listed, Ready}
+use Rattle.sheets.specs.code.run.Known.{wordFound, readingFound, SlotListed, Listed, Ready}
 use Rattle.sheets.proofs.check.NewestLaws.{newest-none, newest-more, place-is, by-place}
 use Rattle.sheets.proofs.run.FloatLaws.{kept-lies}
 
@@ -75,11 +75,11 @@ module _ (t : List Slot) (rs : List Float) (words kinds newest : List ℕ) (f : 
     from = subst (Newest (set words (n + 1) c) (n + 1)) (sym el) (newest-more words n newest (h .from) (omega (arith, h .sizes .0)) c);
   }
     where
-      go : (i : ℕ) → i < n + 1 → (b : Bool) → eqb i n ≡ b → Placed (getD (set t (n + 1) x) (suc i) emptySlot) (set words (n + 1) c) (set kinds (n + 1) k) g (suc i)
+      go : (i : ℕ) → i < n + 1 → (b : Bool) → eqb i n ≡ b → SlotListed (getD (set t (n + 1) x) (suc i) emptySlot) (set words (n + 1) c) (set kinds (n + 1) k) g (suc i)
       go i l true q =
           let a : suc i ≡ n + 1 = omega (arith, eqb-true i n q) in
           let s : getD (set t (n + 1) x) (suc i) emptySlot ≡ x = ap (λ j. getD (set t (n + 1) x) j emptySlot) a ∙ getD-set-same t (n + 1) x emptySlot (omega (arith, h .slots)) in
-          subst (λ y. Placed y (set words (n + 1) c) (set kinds (n + 1) k) g (suc i)) (sym s) (record {
+          subst (λ y. SlotListed y (set words (n + 1) c) (set kinds (n + 1) k) g (suc i)) (sym s) (record {
             word = ap (λ j. getD (set words (n + 1) c) j 0) a ∙ getD-set-same words (n + 1) c 0 (omega (arith, h .sizes .0)) ∙ sym ec;
             kind = ap (λ j. getD (set kinds (n + 1) k) j 0) a ∙ getD-set-same kinds (n + 1) k 0 (omega (arith, h .sizes .1)) ∙ ek;
             lies = subst (λ j. Lies g j (x .value)) (omega (arith, et)) lies;
@@ -87,7 +87,7 @@ module _ (t : List Slot) (rs : List Float) (words kinds newest : List ℕ) (f : 
       go i l false q =
           let a : (i ≡ n → ⊥) = eqb-false i n q in
           let b : i < n = omega arith in
-          subst (λ y. Placed y (set words (n + 1) c) (set kinds (n + 1) k) g (suc i)) (sym (getD-set-other t (n + 1) (suc i) x emptySlot (λ z. omega arith))) (record {
+          subst (λ y. SlotListed y (set words (n + 1) c) (set kinds (n + 1) k) g (suc i)) (sym (getD-set-other t (n + 1) (suc i) x emptySlot (λ z. omega arith))) (record {
             word = getD-set-other words (n + 1) (suc i) c 0 (λ z. omega arith) ∙ h .place i b .word;
             kind = getD-set-other kinds (n + 1) (suc i) k 0 (λ z. omega arith) ∙ h .place i b .kind;
             lies = kept-lies f g top kept (21 * suc i) _ (omega (arith, et)) (h .place i b .lies);
@@ -97,7 +97,7 @@ module _ (t : List Slot) (rs : List Float) (words kinds newest : List ℕ) (f : 
   pub placed-few : (c j : ℕ) → Search.Placed words newest c j → j ≤ n
   placed-few c j p = omega (arith, place-is words n newest (h .from) (h .few) c j p, at-most words c n)
 
-  pub placed-slot : (j : ℕ) → (j ≡ 0 → ⊥) → j ≤ n → Placed (getD t j emptySlot) words kinds f j
+  pub placed-slot : (j : ℕ) → (j ≡ 0 → ⊥) → j ≤ n → SlotListed (getD t j emptySlot) words kinds f j
   placed-slot zero z m = absurd (z refl)
   placed-slot (suc i) z m = h .place i (omega arith)
 

@@ -35,7 +35,7 @@ use Rattle.sheets.specs.code.check.Newest as Search
 use Rattle.sheets.specs.code.run.Floats.{Lies}
 use Rattle.sheets.specs.code.run.Known.{foundOf, wordFound, readingFound, Tabled, Listed, Ready}
 use Rattle.sheets.specs.code.run.Evaluating.{Answers}
-use Rattle.sheets.specs.code.run.Running.{WithReadings, LetWith, Given, ShownAs, stoppedAt, Runs}
+use Rattle.sheets.specs.code.run.Running.{WithReadings, LetWith, GivenAt, ShownAs, stoppedAt, Runs}
 use Rattle.sheets.proofs.reader.LineSteps.{show-says}
 use Rattle.sheets.proofs.reader.Inverse.{limit-read}
 use Rattle.sheets.proofs.reader.Slices.{show-word, word-is}
@@ -161,7 +161,7 @@ module _ {s : List ℕ} {e : Ellipsoid} {rs : List Float} {d : List ℕ} {h : St
           line-stops (h .line) st (sp .line) (sp .rest) (eval x (st .ellipsoid) (st .scope .known)) _ (ap (step (h .line) st) ey) r (sp .next) (an .is) m (h .written) (now .count) d (h .out) (now .text) a ea un)
 
       -- the name's slot is filled
-      pub runs-let : (kind next : ℕ) → r ≡ Evaluated.Is kind next → h .n < 95 → (y : Slot) (words kinds newest : List ℕ) → Given code kind (h .n + 1) g (h .words) (h .kinds) (h .newest) y words kinds newest → (q : RunAnswer) (out′ : List ℕ)
+      pub runs-let : (kind next : ℕ) → r ≡ Evaluated.Is kind next → h .n < 95 → (y : Slot) (words kinds newest : List ℕ) → GivenAt code kind (h .n + 1) g (h .words) (h .kinds) (h .newest) y words kinds newest → (q : RunAnswer) (out′ : List ℕ)
           → RunsFrom s e rs d (record { at = next; line = h .line + 1; slots = set (h .slots) (h .n + 1) y; words = words; kinds = kinds; newest = newest; floats = g; n = h .n + 1; written = h .written; out = h .out }) q out′
           → RunsFrom s e rs d h q out′
       runs-let kind next er few y words kinds newest hg q out′ hr = by-line q out′ (λ ls st now sp un.

@@ -1,4 +1,4 @@
-// The rows that convert a position or make a frame: each is one function of the frame crate, at values of the row's kinds.
+// The rows that convert a position or make a frame, by functions of the frame crate: each at values of the row's kinds.
 use crate::rows::args::Applied;
 use crate::rows::args::gives_frame;
 use crate::rows::args::gives_geocentric;
@@ -38,7 +38,7 @@ pub fn apply_tolla(e: Ellipsoid, position: Value) -> Applied
     }
 }
 
-// enu, ned
+// enu where `ned` is false, ned where it is true.
 pub fn apply_level(e: Ellipsoid, ned: bool, position: Value) -> Applied
     ensures { λ r. ⌜ r ≡ applied e (find table (levelWord ned) (position ∷ [])) ⌝ }
 {

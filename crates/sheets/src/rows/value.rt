@@ -1,4 +1,4 @@
-// What the words of a sheet stand for, and the table of names.
+// What the words of a sheet stand for, and a slot of the table of names.
 use crate::rows::args::place_of;
 use frames::frame::LocalFrame;
 use frames::positions::GeocentricPosition;

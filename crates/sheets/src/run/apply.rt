@@ -49,7 +49,7 @@ pub fn apply(
     }
 }
 
-// The kinds with an orientation, which the arguments share.
+// The keys with a vector or a frame in them; where there are two, they share the orientation. 0xc2, a turn of fbody, has no row: the row itself answers that.
 fn oriented_row(
     e: Ellipsoid,
     code: u64,

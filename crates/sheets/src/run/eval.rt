@@ -1,6 +1,7 @@
 // The evaluator: it calls itself with the bracket depth left falling. A value is tested where it is met, a bracket's after its row.
 // Values lie as floats: the readings from place 0 on, the value of the name at place j of `words` from 21 j on, and above the names, from `top` on, what is being worked out.
-// An expression's value is laid from its `top` on, and so are a bracket's arguments, each with room for a frame.
+// An expression's value is laid from its `top` on, and so are a bracket's arguments, each with room for a frame, 21 floats.
+// A bracket's fifth argument lies 84 places above its first, so that an expression of depth d takes 84 d + 21 floats, and one of depth 11 takes 945; 2940 is that above the places of 95 names. A bracket's five arguments take 105.
 use crate::check::newest::word_place;
 use crate::reader::bytes::WordRead;
 use crate::reader::bytes::byte;
@@ -15,14 +16,15 @@ use frames::ellipsoid::Ellipsoid;
 ghost use Prim.Native.Nat.{_+_, _*_, _≤_};
 ghost use Rattle.sheets.specs.code.run.Evaluating.{KnownWith, LeafWith, EvalsWith, BracketWith};
 
-// The code of a value's kind and the place after its expression; the number of the refusal that stops the machine, 7 or 8; or that the machine sticks.
+// The code of a value's kind and a number: of an expression the place after it, of a let the place of the next line, of a show the bytes then written.
+// Else the number of the refusal that stops the machine, 7 or 8; or that the machine sticks.
 pub enum Evaluated {
     Is(u8, usize),
     Stops(u8),
     Sticks,
 }
 
-// The word with this code, which ends at a place.
+// What the word with this code stands for, laid at `top`; `end` is the place after the word.
 fn known(
     code: u64,
     end: usize,

@@ -17,7 +17,7 @@ pub fn put_byte(b: u8, out: &mut [u8], at: usize) -> usize
     at + 1
 }
 
-// The eight last digits of n, the first of them in the lowest byte: first the digits' values, by three halvings, then 48 added to each, and 39 more to each above 9.
+// The eight last digits of n, the first of them in the lowest byte. The last 32 bits of n are cut in halves three times, each time the higher half put below the lower: 16 bits, bytes, and the values of the digits, which are then the bytes. 48 is added to each, and 39 more to each above 9.
 fn digits_of(n: u64) -> u64
     ensures { λ r. ⌜ bytes 8 r ≡ hex 8 n [] ⌝ }
 {
@@ -28,7 +28,7 @@ fn digits_of(n: u64) -> u64
     c + 0x3030_3030_3030_3030 + over * 39
 }
 
-// The eight last digits of n.
+// The eight last digits of n, stored.
 fn put_eight(n: u64, out: &mut [u8], at: usize) -> usize
     requires { ⌜ at + 8 ≤ length (now out) ⌝ }
     ensures { λ r. ⌜ Written (now (out .entry)) at (hex 8 n []) (now (out .exit)) r ⌝ }

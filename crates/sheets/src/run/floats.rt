@@ -1,5 +1,5 @@
 // Values as floats on a list, which is lent whole: a value is its kind and the place where its floats begin.
-// A frame takes 21 floats, a value of any other kind the first of as many.
+// A frame takes 21 floats, a value of another kind the first few of 21.
 use crate::rows::limits::are_near;
 use crate::rows::limits::is_near;
 use crate::rows::limits::is_within;
@@ -136,7 +136,7 @@ pub fn value_at(kind: u8, f: &[f64; 2940], i: usize) -> Value
     }
 }
 
-// Whether it lies in its limit.
+// Whether it lies in its limit: of g, of a vector and of a frame the first three.
 pub fn in_limit_at(kind: u8, f: &[f64; 2940], i: usize) -> bool
     requires { ⌜ i + 21 ≤ 2940 ⌝ }
     ensures { λ r. ⌜ r ≡ inLimit (valueAt (kindAt kind) (now (f .entry)) i) ⌝ }
@@ -149,7 +149,7 @@ pub fn in_limit_at(kind: u8, f: &[f64; 2940], i: usize) -> bool
     }
 }
 
-// The floats of a value, stored from a place on.
+// Three floats, stored from a place on.
 pub fn lay_three(f: &mut [f64; 2940], i: usize, x: f64, y: f64, z: f64)
     requires { ⌜ i + 3 ≤ 2940 ⌝ }
     ensures { λ _. ⌜ now (f .exit) ≡ lay (now (f .entry)) i (x ∷ y ∷ z ∷ []) ⌝ }

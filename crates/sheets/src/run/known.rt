@@ -8,6 +8,7 @@ ghost use Rattle.sheets.specs.Table.{when};
 ghost use Rattle.sheets.specs.declared.run.known.Found.{Found};
 ghost use Rattle.sheets.specs.code.run.Known.{readingIndex, readingFound};
 
+// What a word stands for, where it is known.
 pub enum Found {
     Value(Value),
     Unknown,
@@ -38,7 +39,7 @@ pub fn reading_index(code: u64) -> usize
     }
 }
 
-// A reading by its word's code.
+// A reading by its word's code. A run has all sixteen; one that were lacking would be 0, as in the machine.
 fn reading(code: u64, readings: &[f64]) -> Found
     ensures { λ r. ⌜ r ≡ readingFound code (now (readings .entry)) ⌝ }
 {

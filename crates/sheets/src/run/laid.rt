@@ -1,4 +1,4 @@
-// What is met or made, laid as floats from a place on: its kind's code and the place behind it, after the test of refusal 7.
+// What is met or made, laid as floats from a place on: its kind's code and the place in the sheet after it, once the test of refusal 7 is passed.
 use crate::rows::args::Applied;
 use crate::rows::args::place_of;
 use crate::rows::value::Value;

@@ -25,7 +25,7 @@ ghost use lib.Dec.{eqb};
 ghost use Rattle.sheets.specs.Table.{when};
 ghost use Rattle.sheets.specs.declared.run.known.Found.{Found};
 ghost use Rattle.sheets.specs.code.run.Known.{readingFound};
-ghost use Rattle.sheets.specs.code.run.Running.{WithReadings, LetWith, Given, ShownAs, stoppedAt, Runs};
+ghost use Rattle.sheets.specs.code.run.Running.{WithReadings, LetWith, GivenAt, ShownAs, stoppedAt, Runs};
 
 // The readings stand first among the floats.
 fn put_readings(readings: &[f64], floats: &mut [f64; 2940])
@@ -77,7 +77,7 @@ fn give(
     newest: &mut [u8; 512],
 ) -> Slot
     requires { ⌜ place ≤ 95 ⌝ }
-    ensures { λ r. ⌜ Given (name .code) kind place (now (floats .entry)) (now (words .entry)) (now (kinds .entry)) (now (newest .entry)) r (now (words .exit)) (now (kinds .exit)) (now (newest .exit)) ⌝ }
+    ensures { λ r. ⌜ GivenAt (name .code) kind place (now (floats .entry)) (now (words .entry)) (now (kinds .entry)) (now (newest .entry)) r (now (words .exit)) (now (kinds .exit)) (now (newest .exit)) ⌝ }
 {
     let word = name.code;
     words[place] = word;

@@ -1,5 +1,6 @@
 // The rows over kinds without an orientation, a function for each list of kinds: the arguments lie as floats, 21 places apart, and the value is laid where the first one lies.
-// A row is so called at values of known kinds.
+// So each row is called at values whose kinds are known.
+// The first argument of `laid` is the letter of the row's value, and no kind's code: 1 a, 2 l, 3 g, 4 d, 5 v, 6 f.
 use crate::reader::words;
 use crate::rows;
 use crate::rows::frame_rows;

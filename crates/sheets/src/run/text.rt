@@ -9,7 +9,7 @@ ghost use Prim.Native.Nat.{_+_, _-_, _<_, _≤_};
 ghost use lib.ListN.{length, replicate};
 ghost use Rattle.sheets.specs.code.run.Writing.{Written, part, zero64, padded, fieldCount, nameSize, kindText, valueText, fitting, room, lineIf};
 
-// A list of at most four fields.
+// Four fields, and 0 behind them up to twelve.
 fn short_fields(a: f64, b: f64, c: f64, d: f64) -> [f64; 12]
     ensures { λ r. ⌜ r ≡ a ∷ b ∷ c ∷ d ∷ replicate 8 zero64 ⌝ }
 {
@@ -92,7 +92,7 @@ fn put_kind(kind: u8, out: &mut [u8], at: usize) -> usize
     )
 }
 
-// The value's kind and its fields.
+// The value's kind and its fields: at most 209 bytes, five letters and twelve fields of 17.
 fn put_value(v: Value, out: &mut [u8], at: usize) -> usize
     requires { ⌜ at + 209 ≤ length (now out) ⌝ }
     ensures { λ r. ⌜ Written (now (out .entry)) at (valueText v) (now (out .exit)) r ⌝ }
@@ -119,7 +119,7 @@ fn put_name(s: &[u8], from: usize, end: usize, out: &mut [u8], at: usize) -> usi
     n
 }
 
-// Whether the name is a part of a sheet of this length of at most 12 bytes, and 223 bytes of a buffer are left.
+// Whether the bytes from `from` to `end` are at most 12 of a sheet of this length, and 223 bytes of the buffer are left: 12, a space, 209 and LF.
 fn has_room(length: usize, from: usize, end: usize, size: usize, at: usize) -> bool
     ensures { λ r. ⌜ r ≡ fitting length from end size at ⌝ }
 {

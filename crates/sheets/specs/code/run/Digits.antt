@@ -1,4 +1,4 @@
--- No part of what must be believed: the bytes of a word, the lowest first.
+-- No part of what must be believed: the bytes of a number, the lowest first.
 use mathlib.Core.List.{List, [], _∷_}
 use Prim.Native.Nat.{ℕ, zero, suc, _/_, _%_}
 

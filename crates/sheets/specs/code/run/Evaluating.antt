@@ -63,7 +63,7 @@ pub record LaidAs (letter : ℕ) (r : Applied) (f : List Float) (at n : ℕ) (q 
 pub record RowLaid (e : Ellipsoid) (code : ℕ) (ks : List Kind) (f : List Float) (at n : ℕ) (q : Evaluated) (f′ : List Float) : Type 0 where
   pub is : length f ≡ 2940 → (w : Word) → IsWord w → code ≡ codeOf w → Answers (applyRow e (find table w (valuesAt ks f at))) n at f q f′
 
--- of the kinds that made a key
+-- q answers the row over values of the kinds that made the key
 pub record ForKinds (e : Ellipsoid) (code key : ℕ) (f : List Float) (at n : ℕ) (q : Evaluated) (f′ : List Float) : Type 0 where
   pub is : (ks : List Kind) → keyOf ks ≡ key → RowLaid e code ks f at n q f′
 
@@ -71,17 +71,17 @@ pub record ForKinds (e : Ellipsoid) (code key : ℕ) (f : List Float) (at n : �
 pub record ForKindsBeyond (keys : List ℕ) (e : Ellipsoid) (code key : ℕ) (f : List Float) (at n : ℕ) (q : Evaluated) (f′ : List Float) : Type 0 where
   pub is : Missed keys key → ForKinds e code key f at n q f′
 
--- the keys of the rows without a vector or a frame, the last of the code's first
+-- the keys of the rows that take no vector and no frame, in the order of the code's arms, the last first
 unfoldable pub plainKeys : List ℕ
 plainKeys = 0x552 ∷ 0x442 ∷ 0x2225 ∷ 0x2224 ∷ 0x25 ∷ 0x24 ∷ 0x5 ∷ 0x4 ∷ 0x223 ∷ 0x333 ∷ 0x1 ∷ []
 
 -- ---- expressions
 
--- of the expression that the reader reads at a place
+-- r answers the expression that the reader reads at a place
 pub record Evals (s : List ℕ) (at depth : ℕ) (e : Ellipsoid) (ps : Known Value) (f : List Float) (top : ℕ) (r : Evaluated) (f′ : List Float) : Type 0 where
   pub is : (x : Expr) (n : ℕ) → readExpr depth s at ≡ got x n → Answers (eval x e ps) n top f r f′
 
--- of a bracket from a place on: of its arguments there, at most `left`, after the values vs, and then of the row for w
+-- r answers a bracket from a place on: its arguments there, at most `left`, after the values vs, and then the row for w
 pub record Bracket (s : List ℕ) (at depth left : ℕ) (e : Ellipsoid) (w : Word) (ps : Known Value) (vs : List Value) (f : List Float) (top : ℕ) (r : Evaluated) (f′ : List Float) : Type 0 where
   pub is : (xs : Exprs) (n : ℕ) → readArgs (readExpr depth s) left s at ≡ got xs n → Answers (then (evals xs e ps) (λ us. applyRow e (find table w (vs ++ us)))) n top f r f′
 

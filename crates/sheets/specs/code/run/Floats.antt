@@ -10,6 +10,7 @@ use Rattle.numbers.specs.declared.mat33.Mat33.{Mat33}
 use Rattle.frames.specs.declared.frame.LocalFrame.{LocalFrame}
 use Rattle.sheets.specs.declared.rows.value.Value.{Value}
 use Rattle.sheets.specs.declared.rows.value.Value.the-variants.{Number, Radians, Metres, Geocentric, Geodetic, Vector, Frame}
+use Rattle.sheets.specs.Output.{components}
 use Rattle.sheets.specs.Kinds.{Kind, number, angle, len, geocentric, geodetic, vector, frame, kindOf}
 
 -- ---- read
@@ -48,9 +49,6 @@ pub record Lies (f : List Float) (i : ℕ) (v : Value) : Type 0 where
 unfoldable pub lay : List Float → ℕ → List Float → List Float
 lay f i [] = f
 lay f i (x ∷ xs) = lay (set f i x) (suc i) xs
-
-abbrev pub components : Vec3 → List Float
-components v = v .x ∷ v .y ∷ v .z ∷ []
 
 abbrev pub byRows : Mat33 → List Float
 byRows m = components (m .r0) ++ (components (m .r1) ++ components (m .r2))

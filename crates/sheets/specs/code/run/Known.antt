@@ -50,17 +50,17 @@ pub record Tabled (ps : Known Value) (t : List Slot) (n : ℕ) (rs : List Float)
 -- ---- the lists that are lent
 
 -- the word, the kind and the value of a slot stand at its place
-pub record Placed (x : Slot) (words kinds : List ℕ) (f : List Float) (j : ℕ) : Type 0 where
+pub record SlotListed (x : Slot) (words kinds : List ℕ) (f : List Float) (j : ℕ) : Type 0 where
   pub word : getD words j 0 ≡ x .word
   pub kind : getD kinds j 0 ≡ kindCode (kindOf (x .value))
   pub lies : Lies f (21 * j) (x .value)
 
--- of the first n slots after slot 0; `newest` has their words' newest places, and the readings stand first among the floats
+-- so stand the first n slots after slot 0; `newest` has their words' newest places, and the readings stand first among the floats
 pub record Listed (t : List Slot) (rs : List Float) (words kinds newest : List ℕ) (f : List Float) (n : ℕ) : Type 0 where
   pub few : n ≤ 95
   pub slots : length t ≡ 96
   pub sizes : (length words ≡ 96) × (length kinds ≡ 96) × (length f ≡ 2940)
-  pub place : (i : ℕ) → i < n → Placed (getD t (suc i) emptySlot) words kinds f (suc i)
+  pub place : (i : ℕ) → i < n → SlotListed (getD t (suc i) emptySlot) words kinds f (suc i)
   pub reading : (i : ℕ) → i < 16 → floatAt f i ≡ getD rs i (num 0)
   pub from : Newest words n newest
 

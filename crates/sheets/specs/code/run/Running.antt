@@ -40,7 +40,7 @@ pub record LetWith (s : List ℕ) (at : ℕ) (e : Ellipsoid) (words kinds newest
   pub is : (ps : Known Value) → Ready ps words kinds newest f top → (w : Word) (l : Line) (n : ℕ) → rest s (let-word w) at ≡ got l n → (x : Expr) × (l ≡ let-line w x) × Answers (eval x e ps) n top f r f′
 
 -- a name given at a place: x is its slot, and the lists have its word, its kind and its newest place
-pub record Given (word kind place : ℕ) (f : List Float) (words kinds newest : List ℕ) (x : Slot) (words′ kinds′ newest′ : List ℕ) : Type 0 where
+pub record GivenAt (word kind place : ℕ) (f : List Float) (words kinds newest : List ℕ) (x : Slot) (words′ kinds′ newest′ : List ℕ) : Type 0 where
   pub slot-is : x ≡ record { word = word; value = valueAt (kindAt kind) f (21 * place) }
   pub words-are : words′ ≡ set words place word
   pub kinds-are : kinds′ ≡ set kinds place kind

@@ -26,10 +26,10 @@ pub record Written (d : List ℕ) (at : ℕ) (text : List ℕ) (d′ : List ℕ)
 abbrev pub part : List ℕ → ℕ → ℕ → List ℕ
 part s from end = take (end - from) (drop from s)
 
--- the value's fields, and 0 behind them up to twelve
 abbrev pub zero64 : Float
 zero64 = ofBits binary64 0
 
+-- the value's fields, and 0 behind them up to twelve
 unfoldable pub padded : Value → List Float
 padded x = fields x ++ replicate (12 - length (fields x)) zero64
 

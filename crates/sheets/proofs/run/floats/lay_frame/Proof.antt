@@ -1,7 +1,8 @@
 -- `sheets::run::floats::lay_frame` meets its contract. Assumes nothing.
 use native.Mathlib.Omega.{arith}
 use mathlib.Core.Path.{refl}
-use Rattle.sheets.specs.code.run.Floats.{components, byRows}
+use Rattle.sheets.specs.Output.{components}
+use Rattle.sheets.specs.code.run.Floats.{byRows}
 use Rattle.sheets.proofs.run.FloatLays.{laid-then}
 use borrow.Author.Needs.{needs}
 use Rattle.sheets.proofs.run.floats.lay_frame.Statement.{statement}

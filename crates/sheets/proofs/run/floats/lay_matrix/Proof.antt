@@ -1,7 +1,7 @@
 -- `sheets::run::floats::lay_matrix` meets its contract. Assumes nothing.
 use native.Mathlib.Omega.{arith}
 use mathlib.Core.Path.{refl}
-use Rattle.sheets.specs.code.run.Floats.{components}
+use Rattle.sheets.specs.Output.{components}
 use Rattle.sheets.proofs.run.FloatLays.{laid-then}
 use borrow.Author.Needs.{needs}
 use Rattle.sheets.proofs.run.floats.lay_matrix.Statement.{statement}
