@@ -8,6 +8,7 @@ pub mod FloatLaws
 pub mod FloatLays
 pub mod KnownLaws
 pub mod ListedLaws
+pub mod EntryLaws
 pub mod LaidSteps
 pub mod KeySteps
 pub mod EvalSteps

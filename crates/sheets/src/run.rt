@@ -3,11 +3,11 @@ pub(crate) mod apply;
 pub(crate) mod eval;
 pub(crate) mod fields;
 pub(crate) mod floats;
-pub(crate) mod known;
 pub(crate) mod laid;
 pub(crate) mod lines_run;
 pub(crate) mod oriented_rows;
 pub(crate) mod plain_rows;
+pub(crate) mod readings;
 pub(crate) mod text;
 
 use crate::answers::RunAnswer;

@@ -2,20 +2,18 @@
 use Prim.Native.Nat.{ℕ, _+_, _*_, _<_, _≤_}
 use native.Mathlib.Omega.{arith}
 use mathlib.Core.Path.{_≡_, refl, sym, ap, subst, _∙_}
-use mathlib.Core.Option.{Option, none, some}
+use mathlib.Core.Option.{none, some}
 use mathlib.Core.List.{List, []}
 use lib.Dec.{eqb}
 use lib.ListN.{getD, length, set}
 use lib.Ieee.{Float}
 use borrow.Author.Tests.{eq-eqb, ne-eqb, le-leb, lt-leb}
-use Rattle.numbers.specs.Ops.{num}
 use Rattle.frames.specs.declared.ellipsoid.Ellipsoid.{Ellipsoid}
 use Rattle.sheets.specs.declared.rows.value.Value.{Value}
 use Rattle.sheets.specs.declared.rows.value.Value.the-variants.{Number}
 use Rattle.sheets.specs.declared.reader.bytes.WordRead.{WordRead}
 use Rattle.sheets.specs.declared.reader.num.DoubleRead.{DoubleRead}
 use Rattle.sheets.specs.declared.reader.expr.Read.{Read}
-use Rattle.sheets.specs.declared.run.known.Found.{Found}
 use Rattle.sheets.specs.declared.run.eval.Evaluated.{Evaluated}
 use Rattle.sheets.specs.Text.{Word}
 use Rattle.sheets.specs.Trees.{word-expr, num-expr}
@@ -30,7 +28,7 @@ use Rattle.sheets.specs.code.reader.Views.{place, coded, doubled}
 use Rattle.sheets.specs.code.check.Newest as Search
 use Rattle.sheets.specs.code.run.Slots.{emptySlot}
 use Rattle.sheets.specs.code.run.Floats.{floatAt, valueAt, Copied}
-use Rattle.sheets.specs.code.run.Known.{foundOf, readingIndex, readingFound, wordFound, SlotListed, Ready}
+use Rattle.sheets.specs.code.run.Known.{readingIndex, readingFound, wordFound, Ready}
 use Rattle.sheets.specs.code.run.Evaluating.{Answers, testedAt, KnownWith, LeafWith, EvalsWith}
 use Rattle.sheets.proofs.reader.ReaderLaws.{expr-leaf}
 use Rattle.sheets.proofs.reader.Viewed.{coded-none, coded-got, doubled-none, doubled-got}
@@ -42,14 +40,6 @@ use Rattle.sheets.proofs.run.LaidSteps.{answers-tested, answers-none}
 
 -- ---- a known word
 
-found-some : (o : Option Value) (v : Value) → foundOf o ≡ Found.Value v → o ≡ some v
-found-some none v e = let z : _≡_ {A = ℕ} 0 1 = cc in absurd (omega arith)
-found-some (some x) v e = let i : x ≡ v = cc in ap some i
-
-found-none : (o : Option Value) → foundOf o ≡ Found.Unknown → o ≡ none
-found-none none e = refl
-found-none (some x) e = let z : _≡_ {A = ℕ} 0 1 = cc in absurd (omega arith)
-
 -- a value laid at a place and tested there answers what was met
 met-number : (x : Float) (f : List Float) (top n : ℕ) → length f ≡ 2940 → top + 21 ≤ 2940 → (q : Evaluated) → q ≡ testedAt 0 (set f top x) top n → Answers (met (Number x)) n top f q (set f top x)
 met-number x f top n lf room q eq = answers-tested top n f (set f top x) [] (Number x) (lies-number f lf top room x) (kept-set f top x) 0 refl q eq
@@ -57,7 +47,7 @@ met-number x f top n lf room q eq = answers-tested top n f (set f top x) [] (Num
 module _ (code n : ℕ) (words kinds newest : List ℕ) (f : List Float) (top : ℕ) (room : top + 21 ≤ 2940) (j : ℕ) (pj : Search.Placed words newest code j) where
   -- by the word's place
   by-found : (ps : Known Value) (r : Ready ps words kinds newest f top) (w : Word) → IsWord w → code ≡ codeOf w
-      → foundOf (lookup w ps) ≡ when (eqb j 0) (readingFound code (r .readings)) (Found.Value (getD (r .slots) j emptySlot .value))
+      → lookup w ps ≡ when (eqb j 0) (readingFound code (r .readings)) (some (getD (r .slots) j emptySlot .value))
   by-found ps r w iw ec = r .tabled .is w iw ∙ ap (wordFound (r .slots) (r .readings) (r .n)) (sym ec) ∙ sym (listed-is (r .slots) (r .readings) words kinds newest f (r .n) (r .listed) code j pj)
 
   module _ (z : j ≡ 0) (i : ℕ) (ei : i ≡ readingIndex code) where
@@ -65,27 +55,27 @@ module _ (code n : ℕ) (words kinds newest : List ℕ) (f : List Float) (top : 
     unfolding readingFound
     known-none h = record {
       is = λ ps r w iw ec.
-          let u : foundOf (lookup w ps) ≡ Found.Unknown = by-found ps r w iw ec ∙ rw (eq-eqb j 0 z, ← ei, le-leb 16 i h) refl in
-          subst (λ o. Answers (meet o) n top f Evaluated.Sticks f) (sym (found-none (lookup w ps) u)) (answers-none top n f []);
+          let u : lookup w ps ≡ none = by-found ps r w iw ec ∙ rw (eq-eqb j 0 z, ← ei, le-leb 16 i h) refl in
+          subst (λ o. Answers (meet o) n top f Evaluated.Sticks f) (sym u) (answers-none top n f []);
     }
 
     pub known-reading : i < 16 → (q : Evaluated) → q ≡ testedAt 0 (set f top (floatAt f i)) top n → KnownWith code n words kinds newest f top q (set f top (floatAt f i))
     unfolding readingFound
     known-reading h q eq = record {
       is = λ ps r w iw ec.
-          let u : foundOf (lookup w ps) ≡ Found.Value (Number (floatAt f i)) = by-found ps r w iw ec ∙ rw (eq-eqb j 0 z, ← ei, lt-leb 16 i h) (ap (λ x. Found.Value (Number x)) (sym (r .listed .reading i h))) in
-          subst (λ o. Answers (meet o) n top f q (set f top (floatAt f i))) (sym (found-some (lookup w ps) _ u)) (met-number (floatAt f i) f top n (r .listed .sizes .2) room q eq);
+          let u : lookup w ps ≡ some (Number (floatAt f i)) = by-found ps r w iw ec ∙ rw (eq-eqb j 0 z, ← ei, lt-leb 16 i h) (ap (λ x. some (Number x)) (sym (r .listed .reading i h))) in
+          subst (λ o. Answers (meet o) n top f q (set f top (floatAt f i))) (sym u) (met-number (floatAt f i) f top n (r .listed .sizes .2) room q eq);
     }
 
   pub known-name : (j ≡ 0 → ⊥) → (k : ℕ) → k ≡ getD kinds j 0 → (g : List Float) → Copied f (21 * j) top g → (q : Evaluated) → q ≡ testedAt k g top n → KnownWith code n words kinds newest f top q g
   known-name z k ek g cp q eq = record {
     is = λ ps r w iw ec.
-        let u : foundOf (lookup w ps) ≡ Found.Value (getD (r .slots) j emptySlot .value) = by-found ps r w iw ec ∙ rw (ne-eqb j 0 z) refl in
+        let u : lookup w ps ≡ some (getD (r .slots) j emptySlot .value) = by-found ps r w iw ec ∙ rw (ne-eqb j 0 z) refl in
         let few = placed-few (r .slots) (r .readings) words kinds newest f (r .n) (r .listed) code j pj in
         let p = placed-slot (r .slots) (r .readings) words kinds newest f (r .n) (r .listed) j z few in
         let v = getD (r .slots) j emptySlot .value in
         let same : valueAt (kindOf v) g top ≡ valueAt (kindOf v) f (21 * j) = same-value (kindOf v) g f top (21 * j) (λ m l. cp .is (r .listed .sizes .2) (omega (arith, few, r .below)) m l) in
-        subst (λ o. Answers (meet o) n top f q g) (sym (found-some (lookup w ps) v u)) (answers-tested top n f g [] v (record { is = same ∙ p .lies .is }) (cp .kept) k (ek ∙ p .kind) q eq);
+        subst (λ o. Answers (meet o) n top f q g) (sym u) (answers-tested top n f g [] v (record { is = same ∙ p .lies .is }) (cp .kept) k (ek ∙ p .kind) q eq);
   }
 
 -- ---- a word or a NUM

@@ -1,16 +1,16 @@
 -- The known words: the slots of the table and the readings stand for them at the start, and after each let. Assumes nothing.
-use Prim.Native.Nat.{ℕ, zero, suc, _+_, _<_, _≤_}
+use Prim.Native.Nat.{ℕ, zero, suc, _+_, _<_}
 use native.Mathlib.Omega.{arith}
 use mathlib.Core.Path.{_≡_, refl, sym, ap, _∙_}
 use mathlib.Core.Bool.{Bool, true, false}
-use mathlib.Core.Option.{Option}
+use mathlib.Core.Option.{Option, none, some}
 use mathlib.Core.List.{List, [], _∷_}
 use lib.Dec.{eqb, leb}
-use lib.ListN.{length, getD, set, List·getD-eq-default}
+use lib.ListN.{length, getD, set}
 use lib.Seq.{getD-set-same, getD-set-other}
-use lib.Ieee.{Float, nan, ofBits, binary64}
+use lib.Ieee.{Float}
 use borrow.Author.Tests.{le-leb, lt-leb, eq-eqb, ne-eqb, eqb-true, eqb-false, leb-true, leb-false}
-use Rattle.numbers.specs.Ops.{num, decimal}
+use Rattle.numbers.specs.Ops.{num}
 use Rattle.sheets.specs.declared.rows.value.Value.{Value}
 use Rattle.sheets.specs.declared.rows.value.Value.the-variants.{Number}
 use Rattle.sheets.specs.declared.rows.value.Slot.{Slot}
@@ -24,28 +24,13 @@ use Rattle.sheets.specs.Names.{Known, lookup, orElse, readingWords, give
 use Rattle.sheets.specs.Machine.{readings}
 use Rattle.sheets.proofs.check.ReadingLaws.{codesOf, AreWords, readingCodes, readings-are}
 use Rattle.sheets.proofs.rows.KindRowLaws.{words-agree}
-use Rattle.sheets.specs.code.run.Known.{foundOf, wordFound, indexIn, readingIndex, readingFound, Tabled}
-use Rattle.sheets.specs.declared.run.known.Found.{Found}
+use Rattle.sheets.specs.code.run.Known.{wordFound, indexIn, readingIndex, readingFound, Tabled}
 
--- ---- one reading
-
-pub getD-inside : (rs : List Float) (i : ℕ) (a b : Float) → i < length rs → getD rs i a ≡ getD rs i b
+-- what is read within a list does not depend on the default
+pub getD-inside : {A : Type 0} (xs : List A) (i : ℕ) (a b : A) → i < length xs → getD xs i a ≡ getD xs i b
 getD-inside [] i a b h = absurd (omega arith)
-getD-inside (r ∷ rs) zero a b h = refl
-getD-inside (r ∷ rs) (suc i) a b h = getD-inside rs i a b (omega arith)
-
-module _ (c : ℕ) (rs : List Float) (i : ℕ) (e : i ≡ readingIndex c) where
-  pub reading-none : 16 ≤ i → Found.Unknown ≡ readingFound c rs
-  unfolding readingFound
-  reading-none h = rw (← e, le-leb 16 i h) refl
-
-  pub reading-in : i < 16 → i < length rs → Found.Value (Number (getD rs i nan)) ≡ readingFound c rs
-  unfolding readingFound
-  reading-in h l = rw (← e, lt-leb 16 i h) (ap (λ x. Found.Value (Number x)) (getD-inside rs i nan (num 0) l))
-
-  pub reading-lacking : i < 16 → length rs ≤ i → Found.Value (Number (ofBits binary64 0)) ≡ readingFound c rs
-  unfolding readingFound ofBits decimal
-  reading-lacking h l = rw (← e, lt-leb 16 i h) (ap (λ x. Found.Value (Number x)) (sym (List·getD-eq-default rs (num 0) l)))
+getD-inside (x ∷ xs) zero a b h = refl
+getD-inside (x ∷ xs) (suc i) a b h = getD-inside xs i a b (omega arith)
 
 -- ---- all readings, by their words' codes
 
@@ -57,12 +42,12 @@ eqb-comm a b = go (eqb a b) refl
     go false e = e ∙ sym (ne-eqb b a (λ q. eqb-false a b e (sym q)))
 
 -- the value under the first of the codes that is c: the readings from the i-th on
-unfoldable byCode : List ℕ → ℕ → List Float → ℕ → Found
-byCode [] c rs i = Found.Unknown
-byCode (k ∷ cs) c rs i = when (eqb c k) (Found.Value (Number (getD rs i (num 0)))) (byCode cs c rs (suc i))
+unfoldable byCode : List ℕ → ℕ → List Float → ℕ → Option Value
+byCode [] c rs i = none
+byCode (k ∷ cs) c rs i = when (eqb c k) (some (Number (getD rs i (num 0)))) (byCode cs c rs (suc i))
 
-abbrev at-index : ℕ → ℕ → List Float → ℕ → Found
-at-index n j rs i = when (leb n j) Found.Unknown (Found.Value (Number (getD rs (i + j) (num 0))))
+abbrev at-index : ℕ → ℕ → List Float → ℕ → Option Value
+at-index n j rs i = when (leb n j) none (some (Number (getD rs (i + j) (num 0))))
 
 leb-suc : (a b : ℕ) → leb (suc a) (suc b) ≡ leb a b
 leb-suc a b = go (leb a b) refl
@@ -77,37 +62,37 @@ by-index [] c rs i = refl
 by-index (k ∷ ks) c rs i = go (eqb c k) (by-index ks c rs (suc i))
   where
     go : (b : Bool) → byCode ks c rs (suc i) ≡ at-index (length ks) (indexIn ks c) rs (suc i)
-        → when b (Found.Value (Number (getD rs i (num 0)))) (byCode ks c rs (suc i)) ≡ at-index (suc (length ks)) (when b 0 (suc (indexIn ks c))) rs i
+        → when b (some (Number (getD rs i (num 0)))) (byCode ks c rs (suc i)) ≡ at-index (suc (length ks)) (when b 0 (suc (indexIn ks c))) rs i
     go true h =
-        ap (λ m. Found.Value (Number (getD rs m (num 0)))) (omega arith)
-        ∙ ap (λ b. when b Found.Unknown (Found.Value (Number (getD rs (i + 0) (num 0))))) (sym (lt-leb (suc (length ks)) 0 (omega arith)))
+        ap (λ m. some (Number (getD rs m (num 0)))) (omega arith)
+        ∙ ap (λ b. when b none (some (Number (getD rs (i + 0) (num 0))))) (sym (lt-leb (suc (length ks)) 0 (omega arith)))
     go false h =
         h
-        ∙ ap (λ b. when b Found.Unknown (Found.Value (Number (getD rs (suc i + indexIn ks c) (num 0))))) (sym (leb-suc (length ks) (indexIn ks c)))
-        ∙ ap (λ m. when (leb (suc (length ks)) (suc (indexIn ks c))) Found.Unknown (Found.Value (Number (getD rs m (num 0))))) (omega arith)
+        ∙ ap (λ b. when b none (some (Number (getD rs (suc i + indexIn ks c) (num 0))))) (sym (leb-suc (length ks) (indexIn ks c)))
+        ∙ ap (λ m. when (leb (suc (length ks)) (suc (indexIn ks c))) none (some (Number (getD rs m (num 0))))) (omega arith)
 
-found-or : (b : Bool) (x : Value) (o : Option Value) → foundOf (orElse b x o) ≡ when b (Found.Value x) (foundOf o)
+found-or : (b : Bool) (x : Value) (o : Option Value) → orElse b x o ≡ when b (some x) o
 found-or true x o = refl
 found-or false x o = refl
 
 -- the readings from the i-th on, where the first i are left out
-known-by-code : (ws : List Word) → AreWords ws → (w : Word) → IsWord w → (all : List Float) (i : ℕ) (rs : List Float) → ((j : ℕ) → getD rs j (num 0) ≡ getD all (i + j) (num 0)) → foundOf (lookup w (readings ws rs)) ≡ byCode (codesOf ws) (codeOf w) all i
+known-by-code : (ws : List Word) → AreWords ws → (w : Word) → IsWord w → (all : List Float) (i : ℕ) (rs : List Float) → ((j : ℕ) → getD rs j (num 0) ≡ getD all (i + j) (num 0)) → lookup w (readings ws rs) ≡ byCode (codesOf ws) (codeOf w) all i
 unfolding byCode
 known-by-code [] a w iw all i rs g = refl
 known-by-code (v ∷ ws) a w iw all i [] g =
     found-or (sameWord w v) (Number (num 0)) (lookup w (readings ws []))
-    ∙ ap (λ b. when b (Found.Value (Number (num 0))) (foundOf (lookup w (readings ws [])))) (sym (words-agree v w (a .0) iw) ∙ eqb-comm (codeOf v) (codeOf w))
-    ∙ ap (λ x. when (eqb (codeOf w) (codeOf v)) (Found.Value (Number x)) (foundOf (lookup w (readings ws [])))) (g 0 ∙ ap (λ k. getD all k (num 0)) (omega arith))
-    ∙ ap (λ o. when (eqb (codeOf w) (codeOf v)) (Found.Value (Number (getD all i (num 0)))) o) (known-by-code ws (a .1) w iw all (suc i) [] (λ j. g (suc j) ∙ ap (λ k. getD all k (num 0)) (omega arith)))
+    ∙ ap (λ b. when b (some (Number (num 0))) (lookup w (readings ws []))) (sym (words-agree v w (a .0) iw) ∙ eqb-comm (codeOf v) (codeOf w))
+    ∙ ap (λ x. when (eqb (codeOf w) (codeOf v)) (some (Number x)) (lookup w (readings ws []))) (g 0 ∙ ap (λ k. getD all k (num 0)) (omega arith))
+    ∙ ap (λ o. when (eqb (codeOf w) (codeOf v)) (some (Number (getD all i (num 0)))) o) (known-by-code ws (a .1) w iw all (suc i) [] (λ j. g (suc j) ∙ ap (λ k. getD all k (num 0)) (omega arith)))
 known-by-code (v ∷ ws) a w iw all i (r ∷ rs) g =
     found-or (sameWord w v) (Number r) (lookup w (readings ws rs))
-    ∙ ap (λ b. when b (Found.Value (Number r)) (foundOf (lookup w (readings ws rs)))) (sym (words-agree v w (a .0) iw) ∙ eqb-comm (codeOf v) (codeOf w))
-    ∙ ap (λ x. when (eqb (codeOf w) (codeOf v)) (Found.Value (Number x)) (foundOf (lookup w (readings ws rs)))) (g 0 ∙ ap (λ k. getD all k (num 0)) (omega arith))
-    ∙ ap (λ o. when (eqb (codeOf w) (codeOf v)) (Found.Value (Number (getD all i (num 0)))) o) (known-by-code ws (a .1) w iw all (suc i) rs (λ j. g (suc j) ∙ ap (λ k. getD all k (num 0)) (omega arith)))
+    ∙ ap (λ b. when b (some (Number r)) (lookup w (readings ws rs))) (sym (words-agree v w (a .0) iw) ∙ eqb-comm (codeOf v) (codeOf w))
+    ∙ ap (λ x. when (eqb (codeOf w) (codeOf v)) (some (Number x)) (lookup w (readings ws rs))) (g 0 ∙ ap (λ k. getD all k (num 0)) (omega arith))
+    ∙ ap (λ o. when (eqb (codeOf w) (codeOf v)) (some (Number (getD all i (num 0)))) o) (known-by-code ws (a .1) w iw all (suc i) rs (λ j. g (suc j) ∙ ap (λ k. getD all k (num 0)) (omega arith)))
 
 sixteen : (c : ℕ) (rs : List Float) → byCode readingCodes c rs 0 ≡ readingFound c rs
 unfolding readingFound readingIndex codeFrom wordChar
-sixteen c rs = by-index readingCodes c rs 0 ∙ ap (λ m. when (leb 16 (readingIndex c)) Found.Unknown (Found.Value (Number (getD rs m (num 0))))) (omega arith)
+sixteen c rs = by-index readingCodes c rs 0 ∙ ap (λ m. when (leb 16 (readingIndex c)) none (some (Number (getD rs m (num 0))))) (omega arith)
 
 -- ---- the table
 
@@ -126,14 +111,14 @@ unfolding wordFound
 tabled-let ps t n rs tb h w iw x y ew ev i = record {
   is = λ v iv.
       found-or (sameWord v w) x (lookup v ps)
-      ∙ ap (λ b. when b (Found.Value x) (foundOf (lookup v ps))) (sym (words-agree w v iw iv))
-      ∙ ap (λ o. when (eqb (codeOf w) (codeOf v)) (Found.Value x) o) (tb .is v iv)
+      ∙ ap (λ b. when b (some x) (lookup v ps)) (sym (words-agree w v iw iv))
+      ∙ ap (λ o. when (eqb (codeOf w) (codeOf v)) (some x) o) (tb .is v iv)
       ∙ sym (now-there v);
 }
   where
-    now-there : (v : Word) → wordFound (set t (suc n) y) rs (suc n) (codeOf v) ≡ when (eqb (codeOf w) (codeOf v)) (Found.Value x) (wordFound t rs n (codeOf v))
+    now-there : (v : Word) → wordFound (set t (suc n) y) rs (suc n) (codeOf v) ≡ when (eqb (codeOf w) (codeOf v)) (some x) (wordFound t rs n (codeOf v))
     now-there v =
-        ap (λ (z : Slot). when (eqb (z .word) (codeOf v)) (Found.Value (z .value)) (wordFound (set t (suc n) y) rs n (codeOf v))) (getD-set-same t (suc n) y emptySlot h)
-        ∙ ap (λ k. when (eqb k (codeOf v)) (Found.Value (y .value)) (wordFound (set t (suc n) y) rs n (codeOf v))) ew
-        ∙ ap (λ u. when (eqb (codeOf w) (codeOf v)) (Found.Value u) (wordFound (set t (suc n) y) rs n (codeOf v))) ev
-        ∙ ap (λ f. when (eqb (codeOf w) (codeOf v)) (Found.Value x) f) (slots-kept n (suc n) (omega arith) t rs y (codeOf v))
+        ap (λ (z : Slot). when (eqb (z .word) (codeOf v)) (some (z .value)) (wordFound (set t (suc n) y) rs n (codeOf v))) (getD-set-same t (suc n) y emptySlot h)
+        ∙ ap (λ k. when (eqb k (codeOf v)) (some (y .value)) (wordFound (set t (suc n) y) rs n (codeOf v))) ew
+        ∙ ap (λ u. when (eqb (codeOf w) (codeOf v)) (some u) (wordFound (set t (suc n) y) rs n (codeOf v))) ev
+        ∙ ap (λ f. when (eqb (codeOf w) (codeOf v)) (some x) f) (slots-kept n (suc n) (omega arith) t rs y (codeOf v))

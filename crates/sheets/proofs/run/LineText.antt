@@ -29,7 +29,7 @@ both : (p q : Bool) → (p && q) ≡ true → (p ≡ true) × (q ≡ true)
 both true q e = (refl, e)
 both false q e = let z : _≡_ {A = ℕ} 0 1 = cc in absurd (omega arith)
 
-pub fitting-told : (n from end m at : ℕ) → fitting n from end m at ≡ true → (from ≤ end) × (end ≤ n) × (end - from ≤ 12) × (at + 223 ≤ m)
+fitting-told : (n from end m at : ℕ) → fitting n from end m at ≡ true → (from ≤ end) × (end ≤ n) × (end - from ≤ 12) × (at + 223 ≤ m)
 unfolding fitting
 fitting-told n from end m at e =
     let (a, e₁) = both (leb from end) _ e in
@@ -75,7 +75,7 @@ module _ (s : List ℕ) (from : ℕ) (w : Word) (end : ℕ) (e : readWord s from
       fitting-is (length s) from end (length d) at (omega (arith, q)) i (omega (arith, q, l)) h
 
   -- the bytes that output_line writes
-  pub line-here : (d : List ℕ) (at : ℕ) → at + 223 ≤ length d → lineIf (room s from end d at) s from end x ≡ outputLine w x
+  line-here : (d : List ℕ) (at : ℕ) → at + 223 ≤ length d → lineIf (room s from end d at) s from end x ≡ outputLine w x
   unfolding lineIf
   line-here d at h = ap (λ b. lineIf b s from end x) (has-room d at h) ∙ ap (λ t. outputLine t x) (word-part s from w end e .0)
 

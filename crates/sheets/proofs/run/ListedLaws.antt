@@ -4,42 +4,39 @@ use native.Mathlib.Omega.{arith}
 use mathlib.Core.Path.{_≡_, refl, sym, ap, subst, _∙_}
 use mathlib.Core.Bool.{Bool, true, false}
 use mathlib.Core.List.{List, [], _∷_}
-use lib.Dec.{eqb}
+use mathlib.Core.Option.{none, some}
+use lib.Dec.{eqb, leb}
 use lib.ListN.{length, set, getD, replicate, length-set, length-replicate}
 use lib.Seq.{getD-set-same, getD-set-other}
 use lib.Ieee.{Float}
-use borrow.Author.Tests.{eqb-true, eqb-false}
+use borrow.Author.Tests.{eqb-true, eqb-false, leb-false}
 use Rattle.numbers.specs.Ops.{num}
 use Rattle.sheets.specs.declared.rows.value.Value.{Value}
+use Rattle.sheets.specs.declared.rows.value.Value.the-variants.{Number}
 use Rattle.sheets.specs.declared.rows.value.Slot.{Slot}
-use Rattle.sheets.specs.declared.run.known.Found.{Found}
-use Rattle.sheets.specs.Kinds.{kindOf, kindCode}
+use Rattle.sheets.specs.Kinds.{number, kindOf, kindCode}
 use Rattle.sheets.specs.Table.{when}
 use Rattle.sheets.specs.Names.{Known}
 use Rattle.sheets.specs.code.check.Newest.{Newest, placeFrom}
 use Rattle.sheets.specs.code.check.Newest as Search
 use Rattle.sheets.specs.code.run.Slots.{emptySlot}
 use Rattle.sheets.specs.code.run.Floats.{floatAt, Lies, KeptBelow}
-use Rattle.sheets.specs.code.run.Known.{wordFound, readingFound, SlotListed, Listed, Ready}
+use Rattle.sheets.specs.code.run.Known.{wordFound, readingIndex, readingFound, foundAt, SlotListed, Listed, Ready}
+use Rattle.sheets.specs.code.run.Keeping.{EntryKept}
 use Rattle.sheets.proofs.check.NewestLaws.{newest-none, newest-more, place-is, by-place}
 use Rattle.sheets.proofs.run.FloatLaws.{kept-lies}
+use Rattle.sheets.proofs.run.KnownLaws.{getD-inside}
 
 -- no name yet
-pub listed-start : (t : List Slot) (rs f : List Float) → length t ≡ 96 → length f ≡ 2940 → ((i : ℕ) → i < 16 → floatAt f i ≡ getD rs i (num 0)) → Listed t rs (replicate 96 0) (replicate 96 255) (replicate 512 0) f 0
+pub listed-start : (t : List Slot) (rs f : List Float) → length t ≡ 96 → length f ≡ 2940 → ((i : ℕ) → i < 16 → floatAt f i ≡ getD rs i (num 0)) → Listed t rs (replicate 96 0) (replicate 96 0) (replicate 512 0) f 0
 listed-start t rs f lt lf h = record {
   few = omega arith;
   slots = lt;
-  sizes = (length-replicate {A = ℕ} 96 0, length-replicate {A = ℕ} 96 255, lf);
+  sizes = (length-replicate {A = ℕ} 96 0, length-replicate {A = ℕ} 96 0, lf);
   place = λ i l. absurd (omega arith);
   reading = h;
   from = newest-none _;
 }
-
--- what is read within the table does not depend on the default
-inside : (t : List Slot) (k : ℕ) (a b : Slot) → k < length t → getD t k a ≡ getD t k b
-inside [] k a b h = absurd (omega arith)
-inside (x ∷ t) zero a b h = refl
-inside (x ∷ t) (suc k) a b h = inside t k a b (omega arith)
 
 -- a word's place is one of the first n
 at-most : (words : List ℕ) (c n : ℕ) → placeFrom words n c ≤ n
@@ -53,7 +50,7 @@ at-most words c (suc n) = go (eqb (getD words (suc n) 0) c) (at-most words c n)
 
 module _ (t : List Slot) (rs : List Float) (words kinds newest : List ℕ) (f : List Float) (n : ℕ) (h : Listed t rs words kinds newest f n) where
   -- what lies below the place behind the last name is as it was
-  pub listed-kept : (top : ℕ) (g : List Float) → KeptBelow f top g → 21 * n + 21 ≤ top → Listed t rs words kinds newest g n
+  listed-kept : (top : ℕ) (g : List Float) → KeptBelow f top g → 21 * n + 21 ≤ top → Listed t rs words kinds newest g n
   listed-kept top g k below = record {
     few = h .few;
     slots = h .slots;
@@ -102,15 +99,40 @@ module _ (t : List Slot) (rs : List Float) (words kinds newest : List ℕ) (f : 
   placed-slot (suc i) z m = h .place i (omega arith)
 
   -- what the slot at the word's place holds, or else the reading
-  pub listed-is : (c j : ℕ) → Search.Placed words newest c j → when (eqb j 0) (readingFound c rs) (Found.Value (getD t j emptySlot .value)) ≡ wordFound t rs n c
+  pub listed-is : (c j : ℕ) → Search.Placed words newest c j → when (eqb j 0) (readingFound c rs) (some (getD t j emptySlot .value)) ≡ wordFound t rs n c
   unfolding wordFound
   listed-is c j p =
-      ap (λ k. when (eqb k 0) (readingFound c rs) (Found.Value (getD t k emptySlot .value))) (place-is words n newest (h .from) (h .few) c j p)
-      ∙ sym (by-place words c (λ k. Found.Value (getD t k emptySlot .value)) (λ k. wordFound t rs k c) n (λ k l. ap (λ z. when (eqb z c) (Found.Value (getD t (suc k) emptySlot .value)) (wordFound t rs k c)) (sym (h .place k l .word))))
+      ap (λ k. when (eqb k 0) (readingFound c rs) (some (getD t k emptySlot .value))) (place-is words n newest (h .from) (h .few) c j p)
+      ∙ sym (by-place words c (λ k. some (getD t k emptySlot .value)) (λ k. wordFound t rs k c) n (λ k l. ap (λ z. when (eqb z c) (some (getD t (suc k) emptySlot .value)) (wordFound t rs k c)) (sym (h .place k l .word))))
 
-  -- the same of a slot read with another default
-  pub listed-at : (c j : ℕ) → Search.Placed words newest c j → (d : Slot) → when (eqb j 0) (readingFound c rs) (Found.Value (getD t j d .value)) ≡ wordFound t rs n c
-  listed-at c j p d = ap (λ (z : Slot). when (eqb j 0) (readingFound c rs) (Found.Value (z .value))) (inside t j d emptySlot (omega (arith, p .most, h .slots))) ∙ listed-is c j p
+  -- the same of a slot read with another default, and of the reading among the floats
+  pub listed-at : (c j : ℕ) → Search.Placed words newest c j → (d : Slot) → foundAt (getD t j d .value) f c j ≡ wordFound t rs n c
+  unfolding foundAt readingFound
+  listed-at c j p d =
+      ap (λ (x : Slot). foundAt (x .value) f c j) (getD-inside t j d emptySlot (omega (arith, p .most, h .slots)))
+      ∙ ap (λ o. when (eqb j 0) o (some (getD t j emptySlot .value))) (go (leb 16 (readingIndex c)) refl)
+      ∙ listed-is c j p
+    where
+      go : (b : Bool) → leb 16 (readingIndex c) ≡ b → when b none (some (Number (floatAt f (readingIndex c)))) ≡ when b none (some (Number (getD rs (readingIndex c) (num 0))))
+      go true q = refl
+      go false q = ap (λ x. some (Number x)) (h .reading (readingIndex c) (leb-false 16 (readingIndex c) q))
+
+  -- what was found at a place: its kind and its floats stand there
+  pub found-kept : getD kinds 0 0 ≡ kindCode number → (c j : ℕ) → Search.Placed words newest c j → (d : Slot) (v : Value) → foundAt (getD t j d .value) f c j ≡ some v → EntryKept kinds f n j v
+  unfolding foundAt
+  found-kept zero-kind c j p d v e = go (eqb j 0) refl (leb 16 (readingIndex c)) (ap (λ (x : Slot). foundAt (x .value) f c j) (getD-inside t j emptySlot d (omega (arith, p .most, h .slots))) ∙ e)
+    where
+      go : (b : Bool) → eqb j 0 ≡ b → (none-such : Bool) → when b (when none-such none (some (Number (floatAt f (readingIndex c))))) (some (getD t j emptySlot .value)) ≡ some v → EntryKept kinds f n j v
+      go true q true e = let z : _≡_ {A = ℕ} 0 1 = cc in absurd (omega arith)
+      go true q false e =
+          let z = eqb-true j 0 q in
+          let ev : Number (floatAt f (readingIndex c)) ≡ v = cc in
+          record { few = omega (arith, z); kind = ap (λ k. getD kinds k 0) z ∙ zero-kind ∙ ap (λ u. kindCode (kindOf u)) ev; lies = λ a. absurd (omega (arith, z)) }
+      go false q u e =
+          let z : (j ≡ 0 → ⊥) = eqb-false j 0 q in
+          let ev : getD t j emptySlot .value ≡ v = cc in
+          let s = placed-slot j z (placed-few c j p) in
+          record { few = placed-few c j p; kind = s .kind ∙ ap (λ x. kindCode (kindOf x)) ev; lies = λ a. subst (Lies f (21 * j)) ev (s .lies) }
 
 -- the known words stay where only what is above them has changed
 pub ready-kept : (ps : Known Value) (words kinds newest : List ℕ) (f : List Float) (top : ℕ) → Ready ps words kinds newest f top → (above : ℕ) (g : List Float) → KeptBelow f above g → top ≤ above → Ready ps words kinds newest g top

@@ -11,15 +11,15 @@ use lib.Seq.{getD-set-same, getD-set-other}
 use lib.Ieee.{Float, nan}
 use types.Run.{OneOf, miss}
 use denote.Enum.Declared.{tagOf}
-use borrow.Author.Tests.{eqb-true, eqb-false, leb-true, leb-false}
+use borrow.Author.Tests.{eqb-true, eqb-false, leb-true, leb-false, eq-eqb, ne-eqb, le-leb, lt-leb}
 use Rattle.numbers.specs.Ops.{num}
 use Rattle.frames.specs.declared.ellipsoid.Ellipsoid.{Ellipsoid}
 use Rattle.sheets.specs.declared.rows.value.Value.{Value}
+use Rattle.sheets.specs.declared.rows.value.Value.the-variants.{Number}
 use Rattle.sheets.specs.declared.reader.expr.Read.{Read}
 use Rattle.sheets.specs.declared.reader.lines.NameAt.{NameAt}
 use Rattle.sheets.specs.declared.answers.RunAnswer.{RunAnswer}
 use Rattle.sheets.specs.declared.run.eval.Evaluated.{Evaluated}
-use Rattle.sheets.specs.declared.run.known.Found.{Found}
 use Rattle.sheets.specs.Trees.{let-line}
 use Rattle.sheets.specs.Kinds.{kindOf, kindCode}
 use Rattle.sheets.specs.Limits.{inLimit}
@@ -27,12 +27,14 @@ use Rattle.sheets.specs.Machine.{Out, goes, stops, sticks, test, meet, e
 use Rattle.sheets.specs.code.reader.Reader.{readExpr, closing, rest}
 use Rattle.sheets.specs.code.reader.Views.{closed}
 use Rattle.sheets.specs.code.run.Floats.{floatAt}
+use Rattle.sheets.specs.code.run.Known.{readingIndex, foundAt}
 use Rattle.sheets.specs.code.run.Writing.{Written, lineIf, room}
-use Rattle.sheets.specs.code.run.Known.{foundOf}
+use Rattle.sheets.specs.code.run.Keeping.{keep}
 use Rattle.sheets.specs.code.run.Evaluating.{evaluated, EvalsWith}
 use Rattle.sheets.specs.code.run.Running.{WithReadings, LetWith, ShownIf, Shown, ShownAs, stoppedAt}
 use Rattle.sheets.proofs.reader.Inverse.{then-read, closing-read}
 use Rattle.sheets.proofs.run.KnownLaws.{getD-inside}
+use Rattle.sheets.proofs.run.EntryLaws.{keep-size, keep-count}
 use Rattle.sheets.proofs.run.eval.Evaluated as evaluation
 
 -- ---- the readings among the floats
@@ -82,7 +84,7 @@ pub not-is {ℓ} : {C : Type ℓ} (r : Evaluated) (k n : ℕ) → NotIs r → r 
 not-is r k n h e = absurd (miss (1 ∷ 2 ∷ []) 0 tt (subst NotIs e h))
 
 -- it does not depend on the place
-pub not-at : (r : Evaluated) (o : Out Value) (m n : ℕ) → NotIs r → r ≡ evaluated o m → r ≡ evaluated o n
+not-at : (r : Evaluated) (o : Out Value) (m n : ℕ) → NotIs r → r ≡ evaluated o m → r ≡ evaluated o n
 unfolding evaluated
 not-at r (goes fs v) m n h e = not-is r _ m h e
 not-at r (stops fs c) m n h e = e
@@ -139,37 +141,57 @@ module _ (s : List ℕ) (at : ℕ) (e : Ellipsoid) (words kinds newest : List �
 
 -- ---- a show
 
-module _ (s : List ℕ) (name : NameAt) (x : Found) (out : List ℕ) (written : ℕ) where
-  pub show-unknown : x ≡ Found.Unknown → ShownAs s name x out written Evaluated.Sticks out
-  unfolding Shown
-  show-unknown e = record { is = rw e (refl, refl) }
+module _ (s : List ℕ) (name : NameAt) (v : Value) (j : ℕ) (js out : List ℕ) (written : ℕ) (b : Bool) (eb : b ≡ inLimit v) where
+  pub show-out : b ≡ false → ShownAs s name (some v) j js out written (Evaluated.Stops 7) js out
+  unfolding Shown ShownIf
+  show-out h = record { is = rw (← eb, h) (refl, refl, refl) }
 
-  module _ (v : Value) (e : x ≡ Found.Value v) (b : Bool) (eb : b ≡ inLimit v) where
-    pub show-out : b ≡ false → ShownAs s name x out written (Evaluated.Stops 7) out
-    unfolding Shown ShownIf
-    show-out h = record { is = rw (e, ← eb, h) (refl, refl) }
+  pub show-in : b ≡ true → (js′ : List ℕ) → js′ ≡ keep js j → (kind : ℕ) → kind ≡ kindCode (kindOf v) → (m : ℕ) (d : List ℕ) → Written out written (lineIf (room s (name .from) (name .end) out written) s (name .from) (name .end) v) d m → ShownAs s name (some v) j js out written (Evaluated.Is kind m) js′ d
+  unfolding Shown ShownIf
+  show-in h js′ ej kind ek m d w = record { is = rw (← eb, h, ek) (m, refl, ej, w) }
 
-    pub show-in : b ≡ true → (kind : ℕ) → kind ≡ kindCode (kindOf v) → (m : ℕ) (d : List ℕ) → Written out written (lineIf (room s (name .from) (name .end) out written) s (name .from) (name .end) v) d m → ShownAs s name x out written (Evaluated.Is kind m) d
-    unfolding Shown ShownIf
-    show-in h kind ek m d w = record { is = rw (e, ← eb, h, ek) (m, refl, w) }
+-- by the word's place
+module _ (s : List ℕ) (name : NameAt) (v : Value) (f : List Float) (j : ℕ) (js out : List ℕ) (written : ℕ) where
+  module _ (z : j ≡ 0) (i : ℕ) (ei : i ≡ readingIndex (name .code)) where
+    pub show-unknown : 16 ≤ i → ShownAs s name (foundAt v f (name .code) j) j js out written Evaluated.Sticks js out
+    unfolding foundAt Shown
+    show-unknown h = rw (eq-eqb j 0 z, ← ei, le-leb 16 i h) (record { is = (refl, refl, refl) })
+
+    pub show-reading : i < 16 → (r : Evaluated) (js′ d : List ℕ) → ShownAs s name (some (Number (floatAt f i))) 0 js out written r js′ d → ShownAs s name (foundAt v f (name .code) j) j js out written r js′ d
+    unfolding foundAt
+    show-reading h r js′ d g = rw (eq-eqb j 0 z, ← ei, lt-leb 16 i h, z) g
+
+  pub show-name : (j ≡ 0 → ⊥) → (r : Evaluated) (js′ d : List ℕ) → ShownAs s name (some v) j js out written r js′ d → ShownAs s name (foundAt v f (name .code) j) j js out written r js′ d
+  unfolding foundAt
+  show-name z r js′ d h = rw (ne-eqb j 0 z) h
 
 -- what a show of a known word comes to
-module _ (s : List ℕ) (name : NameAt) (out : List ℕ) (written : ℕ) (r : Evaluated) (d : List ℕ) where
-  pub show-not : (o : Option Value) → ShownAs s name (foundOf o) out written r d → NotIs r → (r ≡ evaluated (meet o) 0) × (d ≡ out)
+module _ (s : List ℕ) (name : NameAt) (j : ℕ) (js out : List ℕ) (written : ℕ) (r : Evaluated) (js′ d : List ℕ) where
+  pub show-not : (o : Option Value) → ShownAs s name o j js out written r js′ d → NotIs r → (r ≡ evaluated (meet o) 0) × (d ≡ out)
   unfolding Shown ShownIf evaluated
-  show-not none h n = h .is
+  show-not none h n = (h .is .0, h .is .2)
   show-not (some v) h n = go (inLimit v) (h .is)
     where
-      go : (b : Bool) → ShownIf b s name v out written r d → (r ≡ evaluated (test [] b v) 0) × (d ≡ out)
-      go true (m, er, w) = not-is r _ m n er
-      go false e = e
+      go : (b : Bool) → ShownIf b s name v j js out written r js′ d → (r ≡ evaluated (test [] b v) 0) × (d ≡ out)
+      go true (m, er, ej, w) = not-is r _ m n er
+      go false (er, ej, ed) = (er, ed)
 
-  pub show-is : (o : Option Value) → ShownAs s name (foundOf o) out written r d → (k m : ℕ) → r ≡ Evaluated.Is k m
-      → (v : Value) × (meet o ≡ goes [] v) × Written out written (lineIf (room s (name .from) (name .end) out written) s (name .from) (name .end) v) d m
+  pub show-is : (o : Option Value) → ShownAs s name o j js out written r js′ d → (k m : ℕ) → r ≡ Evaluated.Is k m
+      → (v : Value) × (o ≡ some v) × (meet o ≡ goes [] v) × (js′ ≡ keep js j) × Written out written (lineIf (room s (name .from) (name .end) out written) s (name .from) (name .end) v) d m
   unfolding Shown ShownIf
-  show-is none h k m e = let (i, j) = h .is in let z : _≡_ {A = ℕ} 0 1 = cc in absurd (omega arith)
-  show-is (some v) h k m e = go (inLimit v) (h .is)
+  show-is none h k m e = let i = h .is .0 in let z : _≡_ {A = ℕ} 0 1 = cc in absurd (omega arith)
+  show-is (some v) h k m e = let (em, ej, w) = go (inLimit v) (h .is) in (v, refl, em, ej, w)
     where
-      go : (b : Bool) → ShownIf b s name v out written r d → (u : Value) × (test [] b v ≡ goes [] u) × Written out written (lineIf (room s (name .from) (name .end) out written) s (name .from) (name .end) u) d m
-      go true (n, er, w) = let i : n ≡ m = cc in (v, refl, subst (Written out written _ d) i w)
-      go false (er, ed) = let z : _≡_ {A = ℕ} 0 1 = cc in absurd (omega arith)
+      go : (b : Bool) → ShownIf b s name v j js out written r js′ d → (test [] b v ≡ goes [] v) × (js′ ≡ keep js j) × Written out written (lineIf (room s (name .from) (name .end) out written) s (name .from) (name .end) v) d m
+      go true (n, er, ej, w) = let i : n ≡ m = cc in (refl, ej, subst (Written out written _ d) i w)
+      go false (er, ej, ed) = let z : _≡_ {A = ℕ} 0 1 = cc in absurd (omega arith)
+
+  -- at most one place more is kept
+  pub shown-count : (o : Option Value) → ShownAs s name o j js out written r js′ d → length js ≡ 96 → (length js′ ≡ 96) × (getD js′ 0 0 ≤ getD js 0 0 + 1)
+  unfolding Shown ShownIf
+  shown-count none h l = rw (h .is .1) (l, omega arith)
+  shown-count (some v) h l = go (inLimit v) (h .is)
+    where
+      go : (b : Bool) → ShownIf b s name v j js out written r js′ d → (length js′ ≡ 96) × (getD js′ 0 0 ≤ getD js 0 0 + 1)
+      go true (n, er, ej, w) = rw ej (keep-size js j ∙ l, omega (arith, keep-count js j (omega (arith, l))))
+      go false (er, ej, ed) = rw ej (l, omega arith)

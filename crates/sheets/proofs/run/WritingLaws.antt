@@ -14,12 +14,12 @@ use Rattle.sheets.specs.code.run.Writing.{writes, Written, part}
 
 -- ---- writes
 
-pub writes-append : (a b d : List ℕ) (at : ℕ) → writes d at (a ++ b) ≡ writes (writes d at a) (at + length a) b
+writes-append : (a b d : List ℕ) (at : ℕ) → writes d at (a ++ b) ≡ writes (writes d at a) (at + length a) b
 unfolding writes
 writes-append [] b d at = rw add-zero refl
 writes-append (x ∷ a) b d at = writes-append a b (set d at x) (at + 1) ∙ ap (λ (n : ℕ). writes (writes (set d at x) (at + 1) a) n b) (omega arith)
 
-pub length-writes : (a d : List ℕ) (at : ℕ) → length (writes d at a) ≡ length d
+length-writes : (a d : List ℕ) (at : ℕ) → length (writes d at a) ≡ length d
 unfolding writes
 length-writes [] d at = refl
 length-writes (x ∷ a) d at = length-writes a (set d at x) (at + 1) ∙ length-set d at x
@@ -30,7 +30,7 @@ writes-sets [] d at = refl
 writes-sets (x ∷ a) d at = rw add-one (writes-sets a (set d at x) (suc at))
 
 -- the text from the place on, and all else as it was
-pub writes-is : (a d : List ℕ) (at : ℕ) → at + length a ≤ length d → writes d at a ≡ take at d ++ a ++ drop (at + length a) d
+writes-is : (a d : List ℕ) (at : ℕ) → at + length a ≤ length d → writes d at a ≡ take at d ++ a ++ drop (at + length a) d
 writes-is a d at h = writes-sets a d at ∙ sets-eq a d at h
 
 -- ---- a text that grows at its end

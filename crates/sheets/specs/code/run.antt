@@ -5,4 +5,5 @@ pub mod Known
 pub mod Evaluating
 pub mod Digits
 pub mod Writing
+pub mod Keeping
 pub mod Running

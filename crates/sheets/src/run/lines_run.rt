@@ -10,36 +10,23 @@ use crate::reader::lines::closing;
 use crate::reader::lines::line_head;
 use crate::rows::limits::in_limit;
 use crate::rows::value::Slot;
+use crate::rows::value::Value;
 use crate::rows::value::empty_slot;
 use crate::rows::value::kind_of;
 use crate::run::eval::Evaluated;
 use crate::run::eval::eval;
 use crate::run::floats::value_at;
-use crate::run::known::Found;
-use crate::run::known::slot_or_reading;
+use crate::run::readings::put_readings;
+use crate::run::readings::reading_index;
 use crate::run::text::output_line;
 use frames::ellipsoid::Ellipsoid;
 ghost use mathlib.Core.Path.{_≡_};
+ghost use mathlib.Core.Option.{some};
 ghost use Prim.Native.Nat.{_+_, _≤_};
-ghost use lib.Dec.{eqb};
-ghost use Rattle.sheets.specs.Table.{when};
-ghost use Rattle.sheets.specs.declared.run.known.Found.{Found};
-ghost use Rattle.sheets.specs.code.run.Known.{readingFound};
-ghost use Rattle.sheets.specs.code.run.Running.{WithReadings, LetWith, GivenAt, ShownAs, stoppedAt, Runs};
-
-// The readings stand first among the floats.
-fn put_readings(readings: &[f64], floats: &mut [f64; 2940])
-    ensures { λ _. ⌜ WithReadings (now (readings .entry)) (now (floats .entry)) (now (floats .exit)) ⌝ }
-{
-    let mut i: usize = 0;
-    while i < 16 {
-        if readings.len() <= i {
-            return;
-        }
-        floats[i] = readings[i];
-        i += 1;
-    }
-}
+ghost use lib.ListN.{getD};
+ghost use Rattle.sheets.specs.code.run.Keeping.{keep};
+ghost use Rattle.sheets.specs.code.run.Known.{foundAt};
+ghost use Rattle.sheets.specs.code.run.Running.{LetWith, GivenAt, ShownAs, stoppedAt, Runs};
 
 // What a let gives, from the place of its expression: the kind's code of its value, which lies at `top`, and the place of the next line.
 fn let_value(
@@ -87,28 +74,61 @@ fn give(
     Slot { word, value }
 }
 
-// A show of a word, by its place j and the slot x there: the kind's code of what is shown, and the bytes then written.
-fn show(
+// The place of what is shown is kept: `shown` has the number of these places first.
+fn keep(shown: &mut [u8; 96], place: usize)
+    requires { ⌜ (getD (now shown) 0 0 ≤ 94) × (place ≤ 95) ⌝ }
+    ensures { λ _. ⌜ now (shown .exit) ≡ keep (now (shown .entry)) place ⌝ }
+{
+    let count = shown[0] + 1;
+    shown[count as usize] = place as u8;
+    shown[0] = count;
+}
+
+// A show of a value, which stands at a place among the names: the kind's code, and the bytes then written.
+fn show_value(
     s: &[u8],
     name: NameAt,
-    j: usize,
-    x: Slot,
-    readings: &[f64],
+    v: Value,
+    place: usize,
+    shown: &mut [u8; 96],
     out: &mut [u8],
     written: usize,
 ) -> Evaluated
-    ensures { λ r. ⌜ ShownAs (now (s .entry)) name (when (eqb j 0) (readingFound (name .code) (now (readings .entry))) (Found.Value (x .value))) (now (out .entry)) written r (now (out .exit)) ⌝ }
+    requires { ⌜ (getD (now shown) 0 0 ≤ 94) × (place ≤ 95) ⌝ }
+    ensures { λ r. ⌜ ShownAs (now (s .entry)) name (some v) place (now (shown .entry)) (now (out .entry)) written r (now (shown .exit)) (now (out .exit)) ⌝ }
 {
-    let known = slot_or_reading(j, x, name.code, readings);
-    let Found::Value(v) = known else {
-        return Evaluated::Sticks;
-    };
     if in_limit(v) {
+        keep(shown, place);
         let kind = kind_of(v);
         let n = output_line(s, name.from, name.end, v, out, written);
         return Evaluated::Is(kind, n);
     }
     Evaluated::Stops(7)
+}
+
+// A show of a word, by its place j and the slot x there: of what the slot holds, or of a reading, whose place is 0.
+fn show(
+    s: &[u8],
+    name: NameAt,
+    j: usize,
+    x: Slot,
+    floats: &[f64; 2940],
+    shown: &mut [u8; 96],
+    out: &mut [u8],
+    written: usize,
+) -> Evaluated
+    requires { ⌜ (getD (now shown) 0 0 ≤ 94) × (j ≤ 95) ⌝ }
+    ensures { λ r. ⌜ ShownAs (now (s .entry)) name (foundAt (x .value) (now (floats .entry)) (name .code) j) j (now (shown .entry)) (now (out .entry)) written r (now (shown .exit)) (now (out .exit)) ⌝ }
+{
+    if j == 0 {
+        let i = reading_index(name.code);
+        if 16 <= i {
+            return Evaluated::Sticks;
+        }
+        return show_value(s, name, Value::Number(floats[i]), 0, shown, out, written);
+    }
+    let v = x.value;
+    show_value(s, name, v, j, shown, out, written)
 }
 
 // The answer where a line does not go on. An admitted sheet never sticks, so what is answered then does not matter.
@@ -123,13 +143,15 @@ fn stopped(r: Evaluated, line: usize, written: usize) -> RunAnswer
 
 // The lines from line 2, which stands at `from`.
 // The table of names stays here; slot 0 stays empty. `words`, `kinds` and `floats` have its words, kinds and values, each at its slot's place, for the evaluator; `newest` is that of newest.rt.
+// `shown` has the places of what was shown, and a place is never given to another name: so kind and floats of each entry stay known. At place 0, a reading's, stands the kind of a number.
 pub fn run_lines(s: &[u8], from: usize, e: Ellipsoid, readings: &[f64], out: &mut [u8]) -> RunAnswer
     ensures { λ r. ⌜ Runs (now (s .entry)) from e (now (readings .entry)) (now (out .entry)) r (now (out .exit)) ⌝ }
 {
     let mut t = [empty_slot(); 96];
     let mut words = [0u64; 96];
-    let mut kinds = [255u8; 96];
+    let mut kinds = [0u8; 96];
     let mut newest = [0u8; 512];
+    let mut shown = [0u8; 96];
     let mut floats = [0.0; 2940];
     put_readings(readings, &mut floats);
     let mut at = from;
@@ -148,17 +170,14 @@ pub fn run_lines(s: &[u8], from: usize, e: Ellipsoid, readings: &[f64], out: &mu
                 };
                 t[n] = give(name, kind, n, &floats, &mut words, &mut kinds, &mut newest);
                 at = next;
-                continue;
             }
             LineHead::Show(name, next) => {
                 let j = word_place(&words, &newest, name.code);
-                let r = show(s, name, j, t[j], readings, out, written);
-                let Evaluated::Is(_, count) = r else {
-                    return stopped(r, line, written);
-                };
-                written = count;
+                match show(s, name, j, t[j], &floats, &mut shown, out, written) {
+                    Evaluated::Is(_, count) => written = count,
+                    r => return stopped(r, line, written),
+                }
                 at = next;
-                continue;
             }
         }
     }

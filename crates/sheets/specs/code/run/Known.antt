@@ -11,7 +11,6 @@ use Rattle.numbers.specs.Ops.{num}
 use Rattle.sheets.specs.declared.rows.value.Value.{Value}
 use Rattle.sheets.specs.declared.rows.value.Value.the-variants.{Number}
 use Rattle.sheets.specs.declared.rows.value.Slot.{Slot}
-use Rattle.sheets.specs.declared.run.known.Found.{Found}
 use Rattle.sheets.specs.Text.{Word}
 use Rattle.sheets.specs.Grammar.{IsWord}
 use Rattle.sheets.specs.Kinds.{kindOf, kindCode}
@@ -22,10 +21,6 @@ use Rattle.sheets.specs.code.check.Newest.{Newest}
 use Rattle.sheets.specs.code.run.Slots.{emptySlot}
 use Rattle.sheets.specs.code.run.Floats.{floatAt, Lies}
 
-abbrev pub foundOf : Option Value → Found
-foundOf none = Found.Unknown
-foundOf (some x) = Found.Value x
-
 -- the place of a number in a list, the list's length where it is not there
 unfoldable pub indexIn : List ℕ → ℕ → ℕ
 indexIn [] c = 0
@@ -35,17 +30,22 @@ indexIn (k ∷ ks) c = when (eqb c k) 0 (suc (indexIn ks c))
 unfoldable pub readingIndex : ℕ → ℕ
 readingIndex c = indexIn (map codeOf readingWords) c
 
-unfoldable pub readingFound : ℕ → List Float → Found
-readingFound c rs = let i = readingIndex c in when (leb 16 i) Found.Unknown (Found.Value (Number (getD rs i (num 0))))
+-- that reading's value
+unfoldable pub readingFound : ℕ → List Float → Option Value
+readingFound c rs = let i = readingIndex c in when (leb 16 i) none (some (Number (getD rs i (num 0))))
+
+-- by the place j of the word with this code: the value v of the slot there, or else, where j is 0, the reading, which stands among the floats
+unfoldable pub foundAt : Value → List Float → ℕ → ℕ → Option Value
+foundAt v f c j = let i = readingIndex c in when (eqb j 0) (when (leb 16 i) none (some (Number (floatAt f i)))) (some v)
 
 -- the word with this code among the first n slots after slot 0, the newest first, and then the readings
-unfoldable pub wordFound : List Slot → List Float → ℕ → ℕ → Found
+unfoldable pub wordFound : List Slot → List Float → ℕ → ℕ → Option Value
 wordFound t rs zero c = readingFound c rs
-wordFound t rs (suc n) c = when (eqb (getD t (suc n) emptySlot .word) c) (Found.Value (getD t (suc n) emptySlot .value)) (wordFound t rs n c)
+wordFound t rs (suc n) c = when (eqb (getD t (suc n) emptySlot .word) c) (some (getD t (suc n) emptySlot .value)) (wordFound t rs n c)
 
 -- n slots and the readings stand for the known words ps
 pub record Tabled (ps : Known Value) (t : List Slot) (n : ℕ) (rs : List Float) : Type 0 where
-  pub is : (w : Word) → IsWord w → foundOf (lookup w ps) ≡ wordFound t rs n (codeOf w)
+  pub is : (w : Word) → IsWord w → lookup w ps ≡ wordFound t rs n (codeOf w)
 
 -- ---- the lists that are lent
 

@@ -4,10 +4,11 @@ use native.Mathlib.Omega.{arith}
 use mathlib.Core.Path.{_≡_, refl, _∙_}
 use mathlib.Core.Logic.{inl, inr}
 use mathlib.Core.List.{List}
-use lib.ListN.{length, length-set, length-replicate}
+use lib.ListN.{length, getD, length-set, length-replicate}
 use Rattle.sheets.specs.declared.answers.RunAnswer.{RunAnswer}
 use Rattle.sheets.specs.code.run.Running.{Runs}
 use Rattle.sheets.proofs.reader.LineSteps.{head-says}
+use Rattle.sheets.proofs.run.RunParts.{shown-count}
 use Rattle.sheets.proofs.run.RunSteps.{RunsFrom, runs-start, runs-end, runs-over, runs-bad, runs-let-not, runs-let, runs-show-not, runs-show}
 use borrow.Author.Needs.{needs}
 use borrow.Author.Tests.{ltb-true, ltb-false}
@@ -15,11 +16,11 @@ use Rattle.sheets.proofs.run.lines_run.run_lines.Statement.{statement}
 use Rattle.sheets.proofs.run.lines_run.run_lines.Tie as tie
 
 abbrev Inv-loop : tie.InvT-loop
-Inv-loop s from e readings out₀ t₀ words₀ kinds₀ newest₀ floats₀ at₀ line₀ n₀ written₀ out t words kinds newest floats at line n written = (length t ≡ 96) × (n + 1 ≤ line) × (line ≤ 96) × (length out ≡ length out₀)
-    × ((q : RunAnswer) (o : List ℕ) → RunsFrom s e readings out₀ (record { at = at; line = line + 1; slots = t; words = words; kinds = kinds; newest = newest; floats = floats; n = n; written = written; out = out }) q o → Runs s from e readings out₀ q o)
+Inv-loop s from e readings out₀ t₀ words₀ kinds₀ newest₀ shown₀ floats₀ at₀ line₀ n₀ written₀ out t words kinds newest shown floats at line n written = (length t ≡ 96) × (n + 1 ≤ line) × (line ≤ 96) × (length out ≡ length out₀) × (length shown ≡ 96) × (getD shown 0 0 + 1 ≤ line)
+    × ((q : RunAnswer) (o : List ℕ) → RunsFrom s e readings out₀ (record { at = at; line = line + 1; slots = t; words = words; kinds = kinds; newest = newest; shown = shown; floats = floats; n = n; written = written; out = out }) q o → Runs s from e readings out₀ q o)
 
 abbrev μ-loop : tie.MeasureT-loop
-μ-loop s from e readings out₀ t₀ words₀ kinds₀ newest₀ floats₀ at₀ line₀ n₀ written₀ out t words kinds newest floats at line n written = 96 - line
+μ-loop s from e readings out₀ t₀ words₀ kinds₀ newest₀ shown₀ floats₀ at₀ line₀ n₀ written₀ out t words kinds newest shown floats at line n written = 96 - line
 
 empty-slot-requires : tie.Need-empty-slot-requires Inv-loop μ-loop
 empty-slot-requires c κs = search needs
@@ -28,7 +29,7 @@ put-readings-requires : tie.Need-put-readings-requires Inv-loop μ-loop
 put-readings-requires c κs = search needs
 
 loop-holds : tie.Need-loop-holds Inv-loop μ-loop
-loop-holds c = (simp length-replicate, omega arith, omega arith, refl, runs-start _ _ _ _ _ _ _ (c .put-readings .ensures))
+loop-holds c = (simp length-replicate, omega arith, omega arith, refl, length-replicate {A = ℕ} 96 0, omega arith, runs-start _ _ _ _ _ _ _ (c .put-readings .ensures))
 
 add-line : tie.Need-add-line Inv-loop μ-loop
 add-line c = omega arith
@@ -46,7 +47,7 @@ same-length : tie.Need-same-length Inv-loop μ-loop
 same-length c = c .before .before .before .before .before .before .loop .inv .3
 
 returns : tie.Need-returns Inv-loop μ-loop
-returns c = c .before .before .before .before .before .before .loop .inv .4 _ _ (runs-bad (ltb-true _ _ (c .before .before .before .before .if1 .taken)) (head-says _ _ _ (c .before .before .before .line-head .ensures) _ (c .before .enum-told .given .1)) _ _)
+returns c = c .before .before .before .before .before .before .loop .inv .6 _ _ (runs-bad (ltb-true _ _ (c .before .before .before .before .if1 .taken)) (head-says _ _ _ (c .before .before .before .line-head .ensures) _ (c .before .enum-told .given .1)) _ _)
 
 enum-known-name : tie.Need-enum-known-name Inv-loop μ-loop
 enum-known-name c = search needs
@@ -70,7 +71,7 @@ same-length-2 : tie.Need-same-length-2 Inv-loop μ-loop
 same-length-2 c = c .before .before .before .before .before .before .before .before .before .before .before .before .before .loop .inv .3
 
 returns-2 : tie.Need-returns-2 Inv-loop μ-loop
-returns-2 c = c .before .before .before .before .before .before .before .before .before .before .before .before .before .loop .inv .4 _ _ (runs-let-not (ltb-true _ _ (c .before .before .before .before .before .before .before .before .before .before .before .if1 .taken)) _ _ (head-says _ _ _ (c .before .before .before .before .before .before .before .before .before .before .line-head .ensures) _ (c .before .before .before .before .before .before .before .before .name .given .1)) _ _ (c .before .before .let-value .ensures) (c .before .match2 .keys2) _ (c .stopped .ensures))
+returns-2 c = c .before .before .before .before .before .before .before .before .before .before .before .before .before .loop .inv .6 _ _ (runs-let-not (ltb-true _ _ (c .before .before .before .before .before .before .before .before .before .before .before .if1 .taken)) _ _ (head-says _ _ _ (c .before .before .before .before .before .before .before .before .before .before .line-head .ensures) _ (c .before .before .before .before .before .before .before .before .name .given .1)) _ _ (c .before .before .let-value .ensures) (c .before .match2 .keys2) _ (c .stopped .ensures))
 
 give-requires : tie.Need-give-requires Inv-loop μ-loop
 give-requires c κs = omega (arith, c .before .before .before .before .before .before .before .before .before .before .before .before .before .before .before .before .before .before .loop .inv .1, c .before .before .before .before .before .before .before .before .before .before .before .before .before .before .before .before .before .loop-test .taken)
@@ -85,7 +86,7 @@ loop-less : tie.Need-loop-less Inv-loop μ-loop
 loop-less c = omega (arith, c .before .before .before .before .before .before .before .before .before .before .before .before .before .before .before .before .before .before .loop-test .taken)
 
 loop-again : tie.Need-loop-again Inv-loop μ-loop
-loop-again c = (simp length-set (c .before .before .before .before .before .before .before .before .before .before .before .before .before .before .before .before .before .before .before .loop .inv .0), omega (arith, c .before .before .before .before .before .before .before .before .before .before .before .before .before .before .before .before .before .before .before .loop .inv .1), omega (arith, c .before .before .before .before .before .before .before .before .before .before .before .before .before .before .before .before .before .before .loop-test .taken), c .before .before .before .before .before .before .before .before .before .before .before .before .before .before .before .before .before .before .before .loop .inv .3, λ q o k. c .before .before .before .before .before .before .before .before .before .before .before .before .before .before .before .before .before .before .before .loop .inv .4 q o (runs-let (ltb-true _ _ (c .before .before .before .before .before .before .before .before .before .before .before .before .before .before .before .before .before .if1 .taken)) _ _ (head-says _ _ _ (c .before .before .before .before .before .before .before .before .before .before .before .before .before .before .before .before .line-head .ensures) _ (c .before .before .before .before .before .before .before .before .before .before .before .before .before .before .name .given .1)) _ _ (c .before .before .before .before .before .before .before .before .let-value .ensures) _ _ (c .before .before .before .before .before .before .r .given .1) (omega (arith, c .before .before .before .before .before .before .before .before .before .before .before .before .before .before .before .before .before .before .before .loop .inv .1, c .before .before .before .before .before .before .before .before .before .before .before .before .before .before .before .before .before .before .loop-test .taken)) _ _ _ _ (c .give .ensures) q o k))
+loop-again c = (simp length-set (c .before .before .before .before .before .before .before .before .before .before .before .before .before .before .before .before .before .before .before .loop .inv .0), omega (arith, c .before .before .before .before .before .before .before .before .before .before .before .before .before .before .before .before .before .before .before .loop .inv .1), omega (arith, c .before .before .before .before .before .before .before .before .before .before .before .before .before .before .before .before .before .before .loop-test .taken), c .before .before .before .before .before .before .before .before .before .before .before .before .before .before .before .before .before .before .before .loop .inv .3, c .before .before .before .before .before .before .before .before .before .before .before .before .before .before .before .before .before .before .before .loop .inv .4, omega (arith, c .before .before .before .before .before .before .before .before .before .before .before .before .before .before .before .before .before .before .before .loop .inv .5), λ q o k. c .before .before .before .before .before .before .before .before .before .before .before .before .before .before .before .before .before .before .before .loop .inv .6 q o (runs-let (ltb-true _ _ (c .before .before .before .before .before .before .before .before .before .before .before .before .before .before .before .before .before .if1 .taken)) _ _ (head-says _ _ _ (c .before .before .before .before .before .before .before .before .before .before .before .before .before .before .before .before .line-head .ensures) _ (c .before .before .before .before .before .before .before .before .before .before .before .before .before .before .name .given .1)) _ _ (c .before .before .before .before .before .before .before .before .let-value .ensures) _ _ (c .before .before .before .before .before .before .r .given .1) (omega (arith, c .before .before .before .before .before .before .before .before .before .before .before .before .before .before .before .before .before .before .before .loop .inv .1, c .before .before .before .before .before .before .before .before .before .before .before .before .before .before .before .before .before .before .loop-test .taken)) _ _ _ _ (c .give .ensures) q o k))
 
 enum-known-name-2 : tie.Need-enum-known-name-2 Inv-loop μ-loop
 enum-known-name-2 c = search needs
@@ -100,25 +101,25 @@ array-copy-out-show : tie.Need-array-copy-out-show Inv-loop μ-loop
 array-copy-out-show c = omega (arith, c .word-place .ensures .most, c .before .before .before .before .before .before .before .before .before .loop .inv .0)
 
 show-requires : tie.Need-show-requires Inv-loop μ-loop
-show-requires c κs = search needs
+show-requires c κs = (omega (arith, c .before .before .before .before .before .before .before .before .before .before .before .before .before .loop .inv .5, c .before .before .before .before .before .before .before .before .before .before .before .before .loop-test .taken), c .before .before .before .before .word-place .ensures .most)
 
-enum-known-r-2 : tie.Need-enum-known-r-2 Inv-loop μ-loop
-enum-known-r-2 c = search needs
+enum-known-count : tie.Need-enum-known-count Inv-loop μ-loop
+enum-known-count c = search needs
 
 stopped-requires-2 : tie.Need-stopped-requires-2 Inv-loop μ-loop
 stopped-requires-2 c κs = search needs
 
 same-length-3 : tie.Need-same-length-3 Inv-loop μ-loop
-same-length-3 c = c .before .before .before .before .show .kept .1 .1 .1 .1 .1 .0 ∙ c .before .before .before .before .before .before .before .before .before .before .before .before .before .before .before .before .loop .inv .3
+same-length-3 c = c .before .before .before .before .show .kept .1 .1 .1 .1 .1 .1 .0 ∙ c .before .before .before .before .before .before .before .before .before .before .before .before .before .before .before .before .before .before .loop .inv .3
 
 returns-3 : tie.Need-returns-3 Inv-loop μ-loop
-returns-3 c = c .before .before .before .before .before .before .before .before .before .before .before .before .before .before .before .before .loop .inv .4 _ _ (runs-show-not (ltb-true _ _ (c .before .before .before .before .before .before .before .before .before .before .before .before .before .before .if1 .taken)) _ (c .before .before .before .before .before .before .before .before .before .before .before .before .before .line-head .ensures) _ _ (c .before .before .before .before .before .before .before .before .before .before .before .name2 .given .1) _ (c .before .before .before .before .before .before .before .word-place .ensures) _ _ _ (c .before .before .before .before .show .ensures) (c .before .match3 .keys2) _ (c .stopped2 .ensures))
+returns-3 c = c .before .before .before .before .before .before .before .before .before .before .before .before .before .before .before .before .before .before .loop .inv .6 _ _ (runs-show-not (ltb-true _ _ (c .before .before .before .before .before .before .before .before .before .before .before .before .before .before .before .before .if1 .taken)) _ (c .before .before .before .before .before .before .before .before .before .before .before .before .before .before .before .line-head .ensures) _ _ (c .before .before .before .before .before .before .before .before .before .before .before .before .before .name2 .given .1) _ (c .before .before .before .before .before .before .before .before .before .word-place .ensures) _ _ _ _ (c .before .before .before .before .show .ensures) (c .before .match3 .keys2) _ (c .stopped2 .ensures))
 
 loop-less-2 : tie.Need-loop-less-2 Inv-loop μ-loop
-loop-less-2 c = omega (arith, c .before .before .before .before .before .before .before .before .before .before .before .before .before .before .before .before .loop-test .taken)
+loop-less-2 c = omega (arith, c .before .before .before .before .before .before .before .before .before .before .before .before .before .before .before .before .before .before .loop-test .taken)
 
 loop-again-2 : tie.Need-loop-again-2 Inv-loop μ-loop
-loop-again-2 c = (c .before .before .before .before .before .before .before .before .before .before .before .before .before .before .before .before .before .loop .inv .0, omega (arith, c .before .before .before .before .before .before .before .before .before .before .before .before .before .before .before .before .before .loop .inv .1), omega (arith, c .before .before .before .before .before .before .before .before .before .before .before .before .before .before .before .before .loop-test .taken), c .before .before .before .before .before .show .kept .1 .1 .1 .1 .1 .0 ∙ c .before .before .before .before .before .before .before .before .before .before .before .before .before .before .before .before .before .loop .inv .3, λ q o k. c .before .before .before .before .before .before .before .before .before .before .before .before .before .before .before .before .before .loop .inv .4 q o (runs-show (ltb-true _ _ (c .before .before .before .before .before .before .before .before .before .before .before .before .before .before .before .if1 .taken)) _ (c .before .before .before .before .before .before .before .before .before .before .before .before .before .before .line-head .ensures) _ _ (c .before .before .before .before .before .before .before .before .before .before .before .before .name2 .given .1) _ (c .before .before .before .before .before .before .before .before .word-place .ensures) _ _ _ (c .before .before .before .before .before .show .ensures) (omega (arith, c .before .before .before .before .before .before .before .before .before .before .before .before .before .before .before .before .before .loop .inv .1)) (omega (arith, c .before .before .before .before .before .before .before .before .before .before .before .before .before .before .before .before .loop-test .taken)) _ _ (c .before .r2 .given .1) q o k))
+loop-again-2 c = (c .before .before .before .before .before .before .before .before .before .before .before .before .before .before .before .before .before .before .before .loop .inv .0, omega (arith, c .before .before .before .before .before .before .before .before .before .before .before .before .before .before .before .before .before .before .before .loop .inv .1), omega (arith, c .before .before .before .before .before .before .before .before .before .before .before .before .before .before .before .before .before .before .loop-test .taken), c .before .before .before .before .before .show .kept .1 .1 .1 .1 .1 .1 .0 ∙ c .before .before .before .before .before .before .before .before .before .before .before .before .before .before .before .before .before .before .before .loop .inv .3, shown-count _ _ _ _ _ _ _ _ _ _ (c .before .before .before .before .before .show .ensures) (c .before .before .before .before .before .before .before .before .before .before .before .before .before .before .before .before .before .before .before .loop .inv .4) .0, omega (arith, shown-count _ _ _ _ _ _ _ _ _ _ (c .before .before .before .before .before .show .ensures) (c .before .before .before .before .before .before .before .before .before .before .before .before .before .before .before .before .before .before .before .loop .inv .4) .1, c .before .before .before .before .before .before .before .before .before .before .before .before .before .before .before .before .before .before .before .loop .inv .5), λ q o k. c .before .before .before .before .before .before .before .before .before .before .before .before .before .before .before .before .before .before .before .loop .inv .6 q o (runs-show (ltb-true _ _ (c .before .before .before .before .before .before .before .before .before .before .before .before .before .before .before .before .before .if1 .taken)) _ (c .before .before .before .before .before .before .before .before .before .before .before .before .before .before .before .before .line-head .ensures) _ _ (c .before .before .before .before .before .before .before .before .before .before .before .before .before .before .name2 .given .1) _ (c .before .before .before .before .before .before .before .before .before .before .word-place .ensures) _ _ _ _ (c .before .before .before .before .before .show .ensures) (omega (arith, c .before .before .before .before .before .before .before .before .before .before .before .before .before .before .before .before .before .before .before .loop .inv .1)) (omega (arith, c .before .before .before .before .before .before .before .before .before .before .before .before .before .before .before .before .before .before .loop-test .taken)) _ _ (c .before .count .given .1) q o k))
 
 run-answer-requires-2 : tie.Need-run-answer-requires-2 Inv-loop μ-loop
 run-answer-requires-2 c κs = search needs
@@ -128,8 +129,8 @@ same-length-4 c = c .before .before .loop .inv .3
 
 returns-4 : tie.Need-returns-4 Inv-loop μ-loop
 returns-4 c = elim (c .before .loop-test .came) [
-  | inl w ↦ c .before .before .loop .inv .4 _ _ (runs-end (ltb-false _ _ (w .1 .left)) _ (c .run-answer2 .ensures))
-  | inr w ↦ c .before .before .loop .inv .4 _ _ (runs-over (omega (arith, w .left)) _ (c .run-answer2 .ensures))
+  | inl w ↦ c .before .before .loop .inv .6 _ _ (runs-end (ltb-false _ _ (w .1 .left)) _ (c .run-answer2 .ensures))
+  | inr w ↦ c .before .before .loop .inv .6 _ _ (runs-over (omega (arith, w .left)) _ (c .run-answer2 .ensures))
 ]
 
 pub run-lines-spec : {M : Type 1} → statement M
@@ -165,7 +166,7 @@ run-lines-spec =
     mul-show
     array-copy-out-show
     show-requires
-    enum-known-r-2
+    enum-known-count
     stopped-requires-2
     same-length-3
     returns-3

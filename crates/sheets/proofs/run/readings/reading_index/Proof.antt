@@ -1,10 +1,10 @@
--- `sheets::run::known::reading_index` meets its contract. Assumes nothing.
+-- `sheets::run::readings::reading_index` meets its contract. Assumes nothing.
 use borrow.Author.Tests.{ne-eqb}
 use mathlib.Core.Path.{refl}
 use Rattle.sheets.specs.code.reader.Codes.{wordChar, codeFrom}
 use Rattle.sheets.specs.code.run.Known.{readingIndex, indexIn}
-use Rattle.sheets.proofs.run.known.reading_index.Statement.{statement}
-use Rattle.sheets.proofs.run.known.reading_index.Tie as tie
+use Rattle.sheets.proofs.run.readings.reading_index.Statement.{statement}
+use Rattle.sheets.proofs.run.readings.reading_index.Tie as tie
 
 returns : tie.Need-returns
 unfolding readingIndex indexIn wordChar codeFrom

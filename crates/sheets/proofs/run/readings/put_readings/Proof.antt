@@ -1,9 +1,9 @@
--- `sheets::run::lines_run::put_readings` meets its contract. Assumes nothing.
+-- `sheets::run::readings::put_readings` meets its contract. Assumes nothing.
 use Prim.Native.Nat.{_-_}
 use native.Mathlib.Omega.{arith}
 use Rattle.sheets.proofs.run.RunParts.{Putting, putting-none, putting-next, putting-lacking, putting-all}
-use Rattle.sheets.proofs.run.lines_run.put_readings.Statement.{statement}
-use Rattle.sheets.proofs.run.lines_run.put_readings.Tie as tie
+use Rattle.sheets.proofs.run.readings.put_readings.Statement.{statement}
+use Rattle.sheets.proofs.run.readings.put_readings.Tie as tie
 
 abbrev Inv-loop : tie.InvT-loop
 Inv-loop readings floats₀ i₀ floats i = Putting readings floats₀ i floats
