@@ -10,6 +10,7 @@ pub mod KnownLaws
 pub mod ListedLaws
 pub mod EntryLaws
 pub mod LaidSteps
+pub mod ArmSteps
 pub mod KeySteps
 pub mod EvalSteps
 pub mod BracketSteps

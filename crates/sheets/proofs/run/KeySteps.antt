@@ -2,16 +2,19 @@
 use Prim.Native.Nat.{ℕ}
 use native.Mathlib.Omega.{arith}
 use mathlib.Core.Path.{_≡_, refl, sym, ap, subst, _∙_}
-use mathlib.Core.List.{List, []}
+use mathlib.Core.List.{List, [], map}
 use mathlib.Core.Option.{Option, none, some}
 use lib.Dec.{T}
 use lib.Ieee.{Float}
+use types.Run.{OneOf}
 use Rattle.frames.specs.declared.ellipsoid.Ellipsoid.{Ellipsoid}
+use Rattle.frames.specs.declared.orientation.Orientation.{Orientation}
 use Rattle.sheets.specs.declared.run.eval.Evaluated.{Evaluated}
 use Rattle.sheets.specs.Kinds.{Kind}
 use Rattle.sheets.specs.Table.{table}
 use Rattle.sheets.specs.Lookup.{Hit, find, kindRows, findKind}
 use Rattle.sheets.specs.Machine.{applyRow}
+use Rattle.sheets.specs.Claim.{All}
 use Rattle.sheets.specs.code.rows.KindCodes.{keyOf, kindOr255, Missed}
 use Rattle.sheets.specs.code.run.Floats.{valuesAt}
 use Rattle.sheets.specs.code.run.Evaluating.{Answers, RowLaid, ForKinds}
@@ -19,6 +22,7 @@ use Rattle.sheets.proofs.rows.FindKind.{given, mapped, find-kind}
 use Rattle.sheets.proofs.rows.KindRowLaws.{kind-small, key-same, row-kind, allAmong, no-key}
 use Rattle.sheets.proofs.run.FloatLaws.{kinds-of-at}
 use Rattle.sheets.proofs.run.LaidSteps.{answers-none}
+use Rattle.sheets.proofs.run.ArmSteps.{named}
 
 found-none : (o : Option Hit) → 255 ≡ kindOr255 (mapped given o) → o ≡ none
 found-none none h = refl
@@ -30,6 +34,11 @@ module _ {e : Ellipsoid} {code key : ℕ} {f : List Float} {at n : ℕ} where
   -- an arm: the kinds js have the key
   pub by-kinds : (js : List Kind) {q : Evaluated} {f′ : List Float} → key ≡ keyOf js → RowLaid e code js f at n q f′ → ForKinds e code key f at n q f′
   by-kinds js {q} {f′} k r = record { is = λ ks h. subst (λ z. RowLaid e code z f at n q f′) (sym (key-same ks js (h ∙ k))) r }
+
+  -- an arm of several orientations: o is that of the key
+  pub by-orientation : (kinds : Orientation → List Kind) (back : ℕ → Orientation) (us : List Orientation) → All (λ u. back (keyOf (kinds u)) ≡ u) us → {o : Orientation} → OneOf (map (λ u. keyOf (kinds u)) us) key → o ≡ back key
+      → {q : Evaluated} {f′ : List Float} → RowLaid e code (kinds o) f at n q f′ → ForKinds e code key f at n q f′
+  by-orientation kinds back us t {o} m h r = by-kinds (kinds o) (named (λ u. keyOf (kinds u)) back us t m h) r
 
   -- the last arm: no row has the key
   pub no-kinds : (js ks : List ℕ) → T (allAmong (λ p. keyOf (p .takes)) (kindRows table) js ks) → Missed js key → Missed ks key → ForKinds e code key f at n Evaluated.Sticks f

@@ -10,16 +10,16 @@ use crate::run::oriented_rows::vector_row;
 use crate::run::oriented_rows::vectors_row;
 use crate::run::plain_rows::aer_row;
 use crate::run::plain_rows::body_row;
-use crate::run::plain_rows::geocentric_row;
-use crate::run::plain_rows::geodetic_row;
 use crate::run::plain_rows::lengths_row;
 use crate::run::plain_rows::look_row;
 use crate::run::plain_rows::number_row;
+use crate::run::plain_rows::position_row;
 use crate::run::plain_rows::wan_row;
 use frames::ellipsoid::Ellipsoid;
 use frames::orientation::Orientation;
+ghost use mathlib.Core.Path.{_≡_};
 ghost use Prim.Native.Nat.{_+_, _≤_};
-ghost use Rattle.sheets.specs.code.run.Evaluating.{ForKinds, ForKindsBeyond, plainKeys};
+ghost use Rattle.sheets.specs.code.run.Evaluating.{ForKinds, ForKindsBeyond, plainKeys, orientationAt};
 
 // The row for the word with this code, over arguments of the kinds that made the key, as in kinds.rt: by their kinds, then by the word.
 pub fn apply(
@@ -37,8 +37,8 @@ pub fn apply(
         0x1 => number_row(e, code, f, at, end),
         0x333 => lengths_row(e, code, f, at, end),
         0x223 => aer_row(e, code, f, at, end),
-        0x4 => geocentric_row(e, code, f, at, end),
-        0x5 => geodetic_row(e, code, f, at, end),
+        0x4 => position_row(e, code, 3, f, at, end),
+        0x5 => position_row(e, code, 4, f, at, end),
         0x24 => wan_row(e, code, 3, f, at, end),
         0x25 => wan_row(e, code, 4, f, at, end),
         0x2224 => body_row(e, code, 3, f, at, end),
@@ -49,7 +49,19 @@ pub fn apply(
     }
 }
 
-// The keys with a vector or a frame in them; where there are two, they share the orientation. 0xc2, a turn of fbody, has no row: the row itself answers that.
+// The orientation of a vector or a frame, by the digit of its kind in a key: 6 to 9 and a to d.
+fn orientation_at(digit: u64) -> Orientation
+    ensures { λ r. ⌜ r ≡ orientationAt digit ⌝ }
+{
+    match digit {
+        0x6 | 0xa => Orientation::Enu,
+        0x7 | 0xb => Orientation::Ned,
+        0x8 | 0xc => Orientation::Body,
+        _ => Orientation::Wan,
+    }
+}
+
+// The keys with a vector or a frame in them; where there are two, they share the orientation, and the first digit tells it.
 fn oriented_row(
     e: Ellipsoid,
     code: u64,
@@ -62,38 +74,16 @@ fn oriented_row(
     ensures { λ r. ⌜ ForKindsBeyond plainKeys e code key (now (f .entry)) at end r (now (f .exit)) ⌝ }
 {
     match key {
-        0x6 => vector_row(e, code, Orientation::Enu, f, at, end),
-        0x7 => vector_row(e, code, Orientation::Ned, f, at, end),
-        0x8 => vector_row(e, code, Orientation::Body, f, at, end),
-        0x9 => vector_row(e, code, Orientation::Wan, f, at, end),
-        0x66 => vectors_row(e, code, Orientation::Enu, f, at, end),
-        0x77 => vectors_row(e, code, Orientation::Ned, f, at, end),
-        0x88 => vectors_row(e, code, Orientation::Body, f, at, end),
-        0x99 => vectors_row(e, code, Orientation::Wan, f, at, end),
-        0x61 => scale_row(e, code, Orientation::Enu, f, at, end),
-        0x71 => scale_row(e, code, Orientation::Ned, f, at, end),
-        0x81 => scale_row(e, code, Orientation::Body, f, at, end),
-        0x91 => scale_row(e, code, Orientation::Wan, f, at, end),
-        0xa => frame_row(e, code, Orientation::Enu, f, at, end),
-        0xb => frame_row(e, code, Orientation::Ned, f, at, end),
-        0xc => frame_row(e, code, Orientation::Body, f, at, end),
-        0xd => frame_row(e, code, Orientation::Wan, f, at, end),
-        0xa2 => turn_row(e, code, Orientation::Enu, f, at, end),
-        0xb2 => turn_row(e, code, Orientation::Ned, f, at, end),
-        0xc2 => turn_row(e, code, Orientation::Body, f, at, end),
-        0xd2 => turn_row(e, code, Orientation::Wan, f, at, end),
-        0xa4 => to_row(e, code, Orientation::Enu, f, at, end),
-        0xb4 => to_row(e, code, Orientation::Ned, f, at, end),
-        0xc4 => to_row(e, code, Orientation::Body, f, at, end),
-        0xd4 => to_row(e, code, Orientation::Wan, f, at, end),
-        0xa6 => at_row(e, code, Orientation::Enu, f, at, end),
-        0xb7 => at_row(e, code, Orientation::Ned, f, at, end),
-        0xc8 => at_row(e, code, Orientation::Body, f, at, end),
-        0xd9 => at_row(e, code, Orientation::Wan, f, at, end),
-        0xa6222 => move_row(e, code, Orientation::Enu, f, at, end),
-        0xb7222 => move_row(e, code, Orientation::Ned, f, at, end),
-        0xc8222 => move_row(e, code, Orientation::Body, f, at, end),
-        0xd9222 => move_row(e, code, Orientation::Wan, f, at, end),
+        0x6 | 0x7 | 0x8 | 0x9 => vector_row(e, code, orientation_at(key), f, at, end),
+        0x66 | 0x77 | 0x88 | 0x99 => vectors_row(e, code, orientation_at(key / 16), f, at, end),
+        0x61 | 0x71 | 0x81 | 0x91 => scale_row(e, code, orientation_at(key / 16), f, at, end),
+        0xa | 0xb | 0xc | 0xd => frame_row(e, code, orientation_at(key), f, at, end),
+        0xa2 | 0xb2 | 0xd2 => turn_row(e, code, orientation_at(key / 16), f, at, end),
+        0xa4 | 0xb4 | 0xc4 | 0xd4 => to_row(e, code, orientation_at(key / 16), f, at, end),
+        0xa6 | 0xb7 | 0xc8 | 0xd9 => at_row(e, code, orientation_at(key / 16), f, at, end),
+        0xa6222 | 0xb7222 | 0xc8222 | 0xd9222 => {
+            move_row(e, code, orientation_at(key / 0x10000), f, at, end)
+        }
         _ => Evaluated::Sticks,
     }
 }

@@ -48,10 +48,11 @@ pub fn geocentric_at(f: &[f64; 2940], i: usize) -> Value
     requires { ⌜ i + 21 ≤ 2940 ⌝ }
     ensures { λ r. ⌜ r ≡ valueAt geocentric (now (f .entry)) i ⌝ }
 {
+    let v = vec_at(f, i);
     Value::Geocentric(GeocentricPosition {
-        x: Length(f[i]),
-        y: Length(f[i + 1]),
-        z: Length(f[i + 2]),
+        x: Length(v.x),
+        y: Length(v.y),
+        z: Length(v.z),
     })
 }
 
@@ -70,10 +71,11 @@ pub fn vector_at(f: &[f64; 2940], i: usize, orientation: Orientation) -> Value
     requires { ⌜ i + 21 ≤ 2940 ⌝ }
     ensures { λ r. ⌜ r ≡ valueAt (vector orientation) (now (f .entry)) i ⌝ }
 {
+    let v = vec_at(f, i);
     Value::Vector(LocalVector {
-        x: Length(f[i]),
-        y: Length(f[i + 1]),
-        z: Length(f[i + 2]),
+        x: Length(v.x),
+        y: Length(v.y),
+        z: Length(v.z),
         orientation,
     })
 }

@@ -12,10 +12,11 @@ use crate::run::floats::vector_at;
 use crate::run::laid::laid;
 use frames::ellipsoid::Ellipsoid;
 use frames::orientation::Orientation;
+ghost use mathlib.Core.Path.{_≡_};
 ghost use mathlib.Core.List.{[], _∷_};
 ghost use Prim.Native.Nat.{_+_, _≤_};
 ghost use Rattle.sheets.specs.Kinds.{number, angle, geocentric, vector, frame};
-ghost use Rattle.sheets.specs.code.run.Evaluating.{RowLaid};
+ghost use Rattle.sheets.specs.code.run.Evaluating.{RowLaid, axisIn};
 
 // v: neg, swap, bearing, elev, range.
 pub fn vector_row(
@@ -55,8 +56,10 @@ pub fn vectors_row(
     let v = vector_at(f, at, o);
     let w = vector_at(f, at + 21, o);
     match code {
-        words::ADD => laid(5, rows::apply_sum(e, false, v, w), f, at, end),
-        words::SUB => laid(5, rows::apply_sum(e, true, v, w), f, at, end),
+        words::ADD | words::SUB => {
+            let minus = code == words::SUB;
+            laid(5, rows::apply_sum(e, minus, v, w), f, at, end)
+        }
         _ => Evaluated::Sticks,
     }
 }
@@ -81,6 +84,17 @@ pub fn scale_row(
     Evaluated::Sticks
 }
 
+// The axis in the words rz, ry, rx.
+fn axis_of(code: u64) -> Axis
+    ensures { λ r. ⌜ r ≡ axisIn code ⌝ }
+{
+    match code {
+        words::RZ => Axis::Z,
+        words::RY => Axis::Y,
+        _ => Axis::X,
+    }
+}
+
 // f: origin, rz, ry, rx.
 pub fn frame_row(
     e: Ellipsoid,
@@ -96,9 +110,10 @@ pub fn frame_row(
     let p = frame_at(f, at, o);
     match code {
         words::ORIGIN => laid(3, rows::apply_origin(e, p), f, at, end),
-        words::RZ => laid(1, rows::apply_angle(e, Axis::Z, p), f, at, end),
-        words::RY => laid(1, rows::apply_angle(e, Axis::Y, p), f, at, end),
-        words::RX => laid(1, rows::apply_angle(e, Axis::X, p), f, at, end),
+        words::RZ | words::RY | words::RX => {
+            let axis = axis_of(code);
+            laid(1, rows::apply_angle(e, axis, p), f, at, end)
+        }
         _ => Evaluated::Sticks,
     }
 }

@@ -6,19 +6,18 @@ use crate::rows;
 use crate::rows::frame_rows;
 use crate::run::eval::Evaluated;
 use crate::run::floats::angle_at;
-use crate::run::floats::geocentric_at;
-use crate::run::floats::geodetic_at;
 use crate::run::floats::length_at;
 use crate::run::floats::number_at;
 use crate::run::floats::value_at;
 use crate::run::laid::laid;
 use frames::ellipsoid::Ellipsoid;
 use frames::orientation::Orientation;
+ghost use mathlib.Core.Path.{_≡_};
 ghost use mathlib.Core.List.{[], _∷_};
 ghost use Prim.Native.Nat.{_+_, _≤_};
-ghost use Rattle.sheets.specs.Kinds.{number, angle, len, geocentric, geodetic};
+ghost use Rattle.sheets.specs.Kinds.{number, angle, len};
 ghost use Rattle.sheets.specs.code.rows.KindCodes.{kindAt};
-ghost use Rattle.sheets.specs.code.run.Evaluating.{RowLaid};
+ghost use Rattle.sheets.specs.code.run.Evaluating.{RowLaid, orientationIn};
 
 // n: deg, m.
 pub fn number_row(e: Ellipsoid, code: u64, f: &mut [f64; 2940], at: usize, end: usize) -> Evaluated
@@ -33,6 +32,18 @@ pub fn number_row(e: Ellipsoid, code: u64, f: &mut [f64; 2940], at: usize, end: 
     }
 }
 
+// The orientation in a word: in venu to vwan, and in aenu to awan.
+fn orientation_of(code: u64) -> Orientation
+    ensures { λ r. ⌜ r ≡ orientationIn code ⌝ }
+{
+    match code {
+        words::VENU | words::AENU => Orientation::Enu,
+        words::VNED | words::ANED => Orientation::Ned,
+        words::VBODY | words::ABODY => Orientation::Body,
+        _ => Orientation::Wan,
+    }
+}
+
 // l l l: geo, and venu to vwan.
 pub fn lengths_row(e: Ellipsoid, code: u64, f: &mut [f64; 2940], at: usize, end: usize) -> Evaluated
     requires { ⌜ at + 105 ≤ 2940 ⌝ }
@@ -43,34 +54,10 @@ pub fn lengths_row(e: Ellipsoid, code: u64, f: &mut [f64; 2940], at: usize, end:
     let z = length_at(f, at + 42);
     match code {
         words::GEO => laid(3, rows::apply_geo(e, x, y, z), f, at, end),
-        words::VENU => laid(
-            5,
-            rows::apply_vector(e, Orientation::Enu, x, y, z),
-            f,
-            at,
-            end,
-        ),
-        words::VNED => laid(
-            5,
-            rows::apply_vector(e, Orientation::Ned, x, y, z),
-            f,
-            at,
-            end,
-        ),
-        words::VBODY => laid(
-            5,
-            rows::apply_vector(e, Orientation::Body, x, y, z),
-            f,
-            at,
-            end,
-        ),
-        words::VWAN => laid(
-            5,
-            rows::apply_vector(e, Orientation::Wan, x, y, z),
-            f,
-            at,
-            end,
-        ),
+        words::VENU | words::VNED | words::VBODY | words::VWAN => {
+            let o = orientation_of(code);
+            laid(5, rows::apply_vector(e, o, x, y, z), f, at, end)
+        }
         _ => Evaluated::Sticks,
     }
 }
@@ -85,61 +72,39 @@ pub fn aer_row(e: Ellipsoid, code: u64, f: &mut [f64; 2940], at: usize, end: usi
     let z = length_at(f, at + 42);
     match code {
         words::LLA => laid(4, rows::apply_lla(e, x, y, z), f, at, end),
-        words::AENU => laid(5, rows::apply_aer(e, Orientation::Enu, x, y, z), f, at, end),
-        words::ANED => laid(5, rows::apply_aer(e, Orientation::Ned, x, y, z), f, at, end),
-        words::ABODY => laid(
-            5,
-            rows::apply_aer(e, Orientation::Body, x, y, z),
-            f,
-            at,
-            end,
-        ),
-        words::AWAN => laid(5, rows::apply_aer(e, Orientation::Wan, x, y, z), f, at, end),
+        words::AENU | words::ANED | words::ABODY | words::AWAN => {
+            let o = orientation_of(code);
+            laid(5, rows::apply_aer(e, o, x, y, z), f, at, end)
+        }
         _ => Evaluated::Sticks,
     }
 }
 
-// g: tolla, enu, ned.
-pub fn geocentric_row(
+// P: togeo, tolla, enu, ned. P is the kind with this code, g or d; the row itself answers togeo of g and tolla of d.
+pub fn position_row(
     e: Ellipsoid,
     code: u64,
+    kind: u8,
     f: &mut [f64; 2940],
     at: usize,
     end: usize,
 ) -> Evaluated
-    requires { ⌜ at + 105 ≤ 2940 ⌝ }
-    ensures { λ r. ⌜ RowLaid e code (geocentric ∷ []) (now (f .entry)) at end r (now (f .exit)) ⌝ }
+    requires { ⌜ (3 ≤ kind) × (kind ≤ 4) × (at + 105 ≤ 2940) ⌝ }
+    ensures { λ r. ⌜ RowLaid e code (kindAt kind ∷ []) (now (f .entry)) at end r (now (f .exit)) ⌝ }
 {
-    let g = geocentric_at(f, at);
+    let p = value_at(kind, f, at);
     match code {
-        words::TOLLA => laid(4, frame_rows::apply_tolla(e, g), f, at, end),
-        words::ENU => laid(6, frame_rows::apply_level(e, false, g), f, at, end),
-        words::NED => laid(6, frame_rows::apply_level(e, true, g), f, at, end),
+        words::TOGEO => laid(3, frame_rows::apply_togeo(e, p), f, at, end),
+        words::TOLLA => laid(4, frame_rows::apply_tolla(e, p), f, at, end),
+        words::ENU | words::NED => {
+            let ned = code == words::NED;
+            laid(6, frame_rows::apply_level(e, ned, p), f, at, end)
+        }
         _ => Evaluated::Sticks,
     }
 }
 
-// d: togeo, enu, ned.
-pub fn geodetic_row(
-    e: Ellipsoid,
-    code: u64,
-    f: &mut [f64; 2940],
-    at: usize,
-    end: usize,
-) -> Evaluated
-    requires { ⌜ at + 105 ≤ 2940 ⌝ }
-    ensures { λ r. ⌜ RowLaid e code (geodetic ∷ []) (now (f .entry)) at end r (now (f .exit)) ⌝ }
-{
-    let d = geodetic_at(f, at);
-    match code {
-        words::TOGEO => laid(3, frame_rows::apply_togeo(e, d), f, at, end),
-        words::ENU => laid(6, frame_rows::apply_level(e, false, d), f, at, end),
-        words::NED => laid(6, frame_rows::apply_level(e, true, d), f, at, end),
-        _ => Evaluated::Sticks,
-    }
-}
-
-// a P: wan. P is the kind with this code.
+// a P: wan.
 pub fn wan_row(
     e: Ellipsoid,
     code: u64,

@@ -3,16 +3,21 @@
 use Prim.Native.Nat.{ℕ, _+_}
 use mathlib.Core.Path.{_≡_}
 use mathlib.Core.List.{List, [], _∷_, _++_}
+use lib.Dec.{eqb}
 use lib.ListN.{length}
 use lib.Ieee.{Float}
+use mir.Val.{hasKey}
 use Rattle.frames.specs.declared.ellipsoid.Ellipsoid.{Ellipsoid}
+use Rattle.frames.specs.declared.orientation.Orientation.{Orientation}
+use Rattle.frames.specs.declared.orientation.Orientation.the-variants.{Enu, Ned, Body, Wan}
 use Rattle.sheets.specs.declared.rows.value.Value.{Value}
 use Rattle.sheets.specs.declared.rows.args.Applied.{Applied}
+use Rattle.sheets.specs.declared.rows.args.Axis.{Axis}
 use Rattle.sheets.specs.declared.run.eval.Evaluated.{Evaluated}
 use Rattle.sheets.specs.Text.{Word}
 use Rattle.sheets.specs.Trees.{Expr, Exprs}
 use Rattle.sheets.specs.Grammar.{IsWord}
-use Rattle.sheets.specs.Kinds.{Kind, kindOf, kindCode, letterOf}
+use Rattle.sheets.specs.Kinds.{Kind, kindOf, kindCode, letterOf, place}
 use Rattle.sheets.specs.Limits.{inLimit}
 use Rattle.sheets.specs.Table.{when, table}
 use Rattle.sheets.specs.Lookup.{find}
@@ -21,6 +26,7 @@ use Rattle.sheets.specs.Refusals.{centre, stop, refusalNumber}
 use Rattle.sheets.specs.Machine.{Out, goes, stops, sticks, then, meet, result, applyRow, eval, evals}
 use Rattle.sheets.specs.code.reader.Codes.{codeOf}
 use Rattle.sheets.specs.code.reader.Reader.{got, readArgs, readLeaf, readExpr}
+use Rattle.sheets.specs.code.rows.Applied.{vectorWord, aerWord, axisWord}
 use Rattle.sheets.specs.code.rows.KindCodes.{kindAt, keyOf, Missed}
 use Rattle.sheets.specs.code.run.Floats.{valueAt, valuesAt, Lies, KeptBelow}
 use Rattle.sheets.specs.code.run.Known.{Ready}
@@ -74,6 +80,22 @@ pub record ForKindsBeyond (keys : List ℕ) (e : Ellipsoid) (code key : ℕ) (f 
 -- the keys of the rows that take no vector and no frame, in the order of the code's arms, the last first
 unfoldable pub plainKeys : List ℕ
 plainKeys = 0x552 ∷ 0x442 ∷ 0x2225 ∷ 0x2224 ∷ 0x25 ∷ 0x24 ∷ 0x5 ∷ 0x4 ∷ 0x223 ∷ 0x333 ∷ 0x1 ∷ []
+
+-- the orientation whose numbers hold this one, or the last
+abbrev orientationBy : (Orientation → List ℕ) → ℕ → Orientation
+orientationBy ns n = when (hasKey (ns Enu) n) Enu (when (hasKey (ns Ned) n) Ned (when (hasKey (ns Body) n) Body Wan))
+
+-- by the digit, in a key, of a vector's or a frame's kind
+unfoldable pub orientationAt : ℕ → Orientation
+orientationAt = orientationBy (λ o. (6 + place o) ∷ (10 + place o) ∷ [])
+
+-- by the code of a word that makes a vector
+unfoldable pub orientationIn : ℕ → Orientation
+orientationIn = orientationBy (λ o. codeOf (aerWord o) ∷ codeOf (vectorWord o) ∷ [])
+
+-- the axis by the code of a word for an angle of a frame
+unfoldable pub axisIn : ℕ → Axis
+axisIn c = when (eqb (codeOf (axisWord Axis.Z)) c) Axis.Z (when (eqb (codeOf (axisWord Axis.Y)) c) Axis.Y Axis.X)
 
 -- ---- expressions
 

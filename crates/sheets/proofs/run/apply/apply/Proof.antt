@@ -17,11 +17,11 @@ lengths-row-requires c κs = search needs
 aer-row-requires : tie.Need-aer-row-requires
 aer-row-requires c κs = search needs
 
-geocentric-row-requires : tie.Need-geocentric-row-requires
-geocentric-row-requires c κs = search needs
+position-row-requires : tie.Need-position-row-requires
+position-row-requires c κs = search needs
 
-geodetic-row-requires : tie.Need-geodetic-row-requires
-geodetic-row-requires c κs = search needs
+position-row-requires-2 : tie.Need-position-row-requires-2
+position-row-requires-2 c κs = search needs
 
 wan-row-requires : tie.Need-wan-row-requires
 wan-row-requires c κs = search needs
@@ -58,11 +58,11 @@ returns-3 c = by-kinds (angle ∷ angle ∷ len ∷ []) (c .before .before .matc
 
 returns-4 : tie.Need-returns-4
 unfolding keyFrom
-returns-4 c = by-kinds (geocentric ∷ []) (c .before .before .match .keys4) (c .geocentric-row .ensures)
+returns-4 c = by-kinds (geocentric ∷ []) (c .before .before .match .keys4) (c .position-row .ensures)
 
 returns-5 : tie.Need-returns-5
 unfolding keyFrom
-returns-5 c = by-kinds (geodetic ∷ []) (c .before .before .match .keys5) (c .geodetic-row .ensures)
+returns-5 c = by-kinds (geodetic ∷ []) (c .before .before .match .keys5) (c .position-row2 .ensures)
 
 returns-6 : tie.Need-returns-6
 unfolding keyFrom
@@ -93,4 +93,4 @@ unfolding plainKeys
 returns-12 c = c .oriented-row .ensures .is (c .before .before .match .rest)
 
 pub apply-spec : {M : Type 1} → statement M
-apply-spec = tie.close (tie.spec number-row-requires lengths-row-requires aer-row-requires geocentric-row-requires geodetic-row-requires wan-row-requires wan-row-requires-2 body-row-requires body-row-requires-2 look-row-requires look-row-requires-2 oriented-row-requires returns returns-2 returns-3 returns-4 returns-5 returns-6 returns-7 returns-8 returns-9 returns-10 returns-11 returns-12)
+apply-spec = tie.close (tie.spec number-row-requires lengths-row-requires aer-row-requires position-row-requires position-row-requires-2 wan-row-requires wan-row-requires-2 body-row-requires body-row-requires-2 look-row-requires look-row-requires-2 oriented-row-requires returns returns-2 returns-3 returns-4 returns-5 returns-6 returns-7 returns-8 returns-9 returns-10 returns-11 returns-12)
