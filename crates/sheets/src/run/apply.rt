@@ -26,26 +26,26 @@ pub fn apply(
     e: Ellipsoid,
     code: u64,
     key: u64,
-    f: &mut [f64; 2940],
-    at: usize,
+    floats: &mut [f64; 2940],
+    top: usize,
     end: usize,
 ) -> Evaluated
-    requires { ⌜ at + 105 ≤ 2940 ⌝ }
-    ensures { λ r. ⌜ ForKinds e code key (now (f .entry)) at end r (now (f .exit)) ⌝ }
+    requires { ⌜ top + 105 ≤ 2940 ⌝ }
+    ensures { λ r. ⌜ ForKinds e code key (now (floats .entry)) top end r (now (floats .exit)) ⌝ }
 {
     match key {
-        0x1 => number_row(e, code, f, at, end),
-        0x333 => lengths_row(e, code, f, at, end),
-        0x223 => aer_row(e, code, f, at, end),
-        0x4 => position_row(e, code, 3, f, at, end),
-        0x5 => position_row(e, code, 4, f, at, end),
-        0x24 => wan_row(e, code, 3, f, at, end),
-        0x25 => wan_row(e, code, 4, f, at, end),
-        0x2224 => body_row(e, code, 3, f, at, end),
-        0x2225 => body_row(e, code, 4, f, at, end),
-        0x442 => look_row(e, code, 3, f, at, end),
-        0x552 => look_row(e, code, 4, f, at, end),
-        _ => oriented_row(e, code, key, f, at, end),
+        0x1 => number_row(e, code, floats, top, end),
+        0x333 => lengths_row(e, code, floats, top, end),
+        0x223 => aer_row(e, code, floats, top, end),
+        0x4 => position_row(e, code, 3, floats, top, end),
+        0x5 => position_row(e, code, 4, floats, top, end),
+        0x24 => wan_row(e, code, 3, floats, top, end),
+        0x25 => wan_row(e, code, 4, floats, top, end),
+        0x2224 => body_row(e, code, 3, floats, top, end),
+        0x2225 => body_row(e, code, 4, floats, top, end),
+        0x442 => look_row(e, code, 3, floats, top, end),
+        0x552 => look_row(e, code, 4, floats, top, end),
+        _ => oriented_row(e, code, key, floats, top, end),
     }
 }
 
@@ -66,23 +66,30 @@ fn oriented_row(
     e: Ellipsoid,
     code: u64,
     key: u64,
-    f: &mut [f64; 2940],
-    at: usize,
+    floats: &mut [f64; 2940],
+    top: usize,
     end: usize,
 ) -> Evaluated
-    requires { ⌜ at + 105 ≤ 2940 ⌝ }
-    ensures { λ r. ⌜ ForKindsBeyond plainKeys e code key (now (f .entry)) at end r (now (f .exit)) ⌝ }
+    requires { ⌜ top + 105 ≤ 2940 ⌝ }
+    ensures { λ r. ⌜ ForKindsBeyond plainKeys e code key (now (floats .entry)) top end r (now (floats .exit)) ⌝ }
 {
     match key {
-        0x6 | 0x7 | 0x8 | 0x9 => vector_row(e, code, orientation_at(key), f, at, end),
-        0x66 | 0x77 | 0x88 | 0x99 => vectors_row(e, code, orientation_at(key / 16), f, at, end),
-        0x61 | 0x71 | 0x81 | 0x91 => scale_row(e, code, orientation_at(key / 16), f, at, end),
-        0xa | 0xb | 0xc | 0xd => frame_row(e, code, orientation_at(key), f, at, end),
-        0xa2 | 0xb2 | 0xd2 => turn_row(e, code, orientation_at(key / 16), f, at, end),
-        0xa4 | 0xb4 | 0xc4 | 0xd4 => to_row(e, code, orientation_at(key / 16), f, at, end),
-        0xa6 | 0xb7 | 0xc8 | 0xd9 => at_row(e, code, orientation_at(key / 16), f, at, end),
+        0x6 | 0x7 | 0x8 | 0x9 => vector_row(e, code, orientation_at(key), floats, top, end),
+        0x66 | 0x77 | 0x88 | 0x99 => vectors_row(
+            e,
+            code,
+            orientation_at(key / 16),
+            floats,
+            top,
+            end,
+        ),
+        0x61 | 0x71 | 0x81 | 0x91 => scale_row(e, code, orientation_at(key / 16), floats, top, end),
+        0xa | 0xb | 0xc | 0xd => frame_row(e, code, orientation_at(key), floats, top, end),
+        0xa2 | 0xb2 | 0xd2 => turn_row(e, code, orientation_at(key / 16), floats, top, end),
+        0xa4 | 0xb4 | 0xc4 | 0xd4 => to_row(e, code, orientation_at(key / 16), floats, top, end),
+        0xa6 | 0xb7 | 0xc8 | 0xd9 => at_row(e, code, orientation_at(key / 16), floats, top, end),
         0xa6222 | 0xb7222 | 0xc8222 | 0xd9222 => {
-            move_row(e, code, orientation_at(key / 0x10000), f, at, end)
+            move_row(e, code, orientation_at(key / 0x10000), floats, top, end)
         }
         _ => Evaluated::Sticks,
     }

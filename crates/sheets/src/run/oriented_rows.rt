@@ -23,20 +23,20 @@ pub fn vector_row(
     e: Ellipsoid,
     code: u64,
     o: Orientation,
-    f: &mut [f64; 2940],
-    at: usize,
+    floats: &mut [f64; 2940],
+    top: usize,
     end: usize,
 ) -> Evaluated
-    requires { ⌜ at + 105 ≤ 2940 ⌝ }
-    ensures { λ r. ⌜ RowLaid e code (vector o ∷ []) (now (f .entry)) at end r (now (f .exit)) ⌝ }
+    requires { ⌜ top + 105 ≤ 2940 ⌝ }
+    ensures { λ r. ⌜ RowLaid e code (vector o ∷ []) (now (floats .entry)) top end r (now (floats .exit)) ⌝ }
 {
-    let v = vector_at(f, at, o);
+    let vector = vector_at(floats, top, o);
     match code {
-        words::NEG => laid(5, rows::apply_neg(e, v), f, at, end),
-        words::SWAP => laid(5, rows::apply_swap(e, v), f, at, end),
-        words::BEARING => laid(1, rows::apply_bearing(e, v), f, at, end),
-        words::ELEV => laid(1, rows::apply_elev(e, v), f, at, end),
-        words::RANGE => laid(2, rows::apply_range(e, v), f, at, end),
+        words::NEG => laid(5, rows::apply_neg(e, vector), floats, top, end),
+        words::SWAP => laid(5, rows::apply_swap(e, vector), floats, top, end),
+        words::BEARING => laid(1, rows::apply_bearing(e, vector), floats, top, end),
+        words::ELEV => laid(1, rows::apply_elev(e, vector), floats, top, end),
+        words::RANGE => laid(2, rows::apply_range(e, vector), floats, top, end),
         _ => Evaluated::Sticks,
     }
 }
@@ -46,19 +46,19 @@ pub fn vectors_row(
     e: Ellipsoid,
     code: u64,
     o: Orientation,
-    f: &mut [f64; 2940],
-    at: usize,
+    floats: &mut [f64; 2940],
+    top: usize,
     end: usize,
 ) -> Evaluated
-    requires { ⌜ at + 105 ≤ 2940 ⌝ }
-    ensures { λ r. ⌜ RowLaid e code (vector o ∷ vector o ∷ []) (now (f .entry)) at end r (now (f .exit)) ⌝ }
+    requires { ⌜ top + 105 ≤ 2940 ⌝ }
+    ensures { λ r. ⌜ RowLaid e code (vector o ∷ vector o ∷ []) (now (floats .entry)) top end r (now (floats .exit)) ⌝ }
 {
-    let v = vector_at(f, at, o);
-    let w = vector_at(f, at + 21, o);
+    let v = vector_at(floats, top, o);
+    let w = vector_at(floats, top + 21, o);
     match code {
         words::ADD | words::SUB => {
             let minus = code == words::SUB;
-            laid(5, rows::apply_sum(e, minus, v, w), f, at, end)
+            laid(5, rows::apply_sum(e, minus, v, w), floats, top, end)
         }
         _ => Evaluated::Sticks,
     }
@@ -69,17 +69,17 @@ pub fn scale_row(
     e: Ellipsoid,
     code: u64,
     o: Orientation,
-    f: &mut [f64; 2940],
-    at: usize,
+    floats: &mut [f64; 2940],
+    top: usize,
     end: usize,
 ) -> Evaluated
-    requires { ⌜ at + 105 ≤ 2940 ⌝ }
-    ensures { λ r. ⌜ RowLaid e code (vector o ∷ number ∷ []) (now (f .entry)) at end r (now (f .exit)) ⌝ }
+    requires { ⌜ top + 105 ≤ 2940 ⌝ }
+    ensures { λ r. ⌜ RowLaid e code (vector o ∷ number ∷ []) (now (floats .entry)) top end r (now (floats .exit)) ⌝ }
 {
-    let v = vector_at(f, at, o);
-    let x = number_at(f, at + 21);
+    let vector = vector_at(floats, top, o);
+    let factor = number_at(floats, top + 21);
     if code == words::SCALE {
-        return laid(5, rows::apply_scale(e, v, x), f, at, end);
+        return laid(5, rows::apply_scale(e, vector, factor), floats, top, end);
     }
     Evaluated::Sticks
 }
@@ -100,19 +100,19 @@ pub fn frame_row(
     e: Ellipsoid,
     code: u64,
     o: Orientation,
-    f: &mut [f64; 2940],
-    at: usize,
+    floats: &mut [f64; 2940],
+    top: usize,
     end: usize,
 ) -> Evaluated
-    requires { ⌜ at + 105 ≤ 2940 ⌝ }
-    ensures { λ r. ⌜ RowLaid e code (frame o ∷ []) (now (f .entry)) at end r (now (f .exit)) ⌝ }
+    requires { ⌜ top + 105 ≤ 2940 ⌝ }
+    ensures { λ r. ⌜ RowLaid e code (frame o ∷ []) (now (floats .entry)) top end r (now (floats .exit)) ⌝ }
 {
-    let p = frame_at(f, at, o);
+    let frame = frame_at(floats, top, o);
     match code {
-        words::ORIGIN => laid(3, rows::apply_origin(e, p), f, at, end),
+        words::ORIGIN => laid(3, rows::apply_origin(e, frame), floats, top, end),
         words::RZ | words::RY | words::RX => {
             let axis = axis_of(code);
-            laid(1, rows::apply_angle(e, axis, p), f, at, end)
+            laid(1, rows::apply_angle(e, axis, frame), floats, top, end)
         }
         _ => Evaluated::Sticks,
     }
@@ -123,17 +123,17 @@ pub fn turn_row(
     e: Ellipsoid,
     code: u64,
     o: Orientation,
-    f: &mut [f64; 2940],
-    at: usize,
+    floats: &mut [f64; 2940],
+    top: usize,
     end: usize,
 ) -> Evaluated
-    requires { ⌜ at + 105 ≤ 2940 ⌝ }
-    ensures { λ r. ⌜ RowLaid e code (frame o ∷ angle ∷ []) (now (f .entry)) at end r (now (f .exit)) ⌝ }
+    requires { ⌜ top + 105 ≤ 2940 ⌝ }
+    ensures { λ r. ⌜ RowLaid e code (frame o ∷ angle ∷ []) (now (floats .entry)) top end r (now (floats .exit)) ⌝ }
 {
-    let p = frame_at(f, at, o);
-    let x = angle_at(f, at + 21);
+    let frame = frame_at(floats, top, o);
+    let angle = angle_at(floats, top + 21);
     if code == words::TURN {
-        return laid(6, frame_rows::apply_turn(e, p, x), f, at, end);
+        return laid(6, frame_rows::apply_turn(e, frame, angle), floats, top, end);
     }
     Evaluated::Sticks
 }
@@ -143,17 +143,17 @@ pub fn to_row(
     e: Ellipsoid,
     code: u64,
     o: Orientation,
-    f: &mut [f64; 2940],
-    at: usize,
+    floats: &mut [f64; 2940],
+    top: usize,
     end: usize,
 ) -> Evaluated
-    requires { ⌜ at + 105 ≤ 2940 ⌝ }
-    ensures { λ r. ⌜ RowLaid e code (frame o ∷ geocentric ∷ []) (now (f .entry)) at end r (now (f .exit)) ⌝ }
+    requires { ⌜ top + 105 ≤ 2940 ⌝ }
+    ensures { λ r. ⌜ RowLaid e code (frame o ∷ geocentric ∷ []) (now (floats .entry)) top end r (now (floats .exit)) ⌝ }
 {
-    let p = frame_at(f, at, o);
-    let g = geocentric_at(f, at + 21);
+    let frame = frame_at(floats, top, o);
+    let position = geocentric_at(floats, top + 21);
     if code == words::TO {
-        return laid(5, rows::apply_to(e, p, g), f, at, end);
+        return laid(5, rows::apply_to(e, frame, position), floats, top, end);
     }
     Evaluated::Sticks
 }
@@ -163,17 +163,17 @@ pub fn at_row(
     e: Ellipsoid,
     code: u64,
     o: Orientation,
-    f: &mut [f64; 2940],
-    at: usize,
+    floats: &mut [f64; 2940],
+    top: usize,
     end: usize,
 ) -> Evaluated
-    requires { ⌜ at + 105 ≤ 2940 ⌝ }
-    ensures { λ r. ⌜ RowLaid e code (frame o ∷ vector o ∷ []) (now (f .entry)) at end r (now (f .exit)) ⌝ }
+    requires { ⌜ top + 105 ≤ 2940 ⌝ }
+    ensures { λ r. ⌜ RowLaid e code (frame o ∷ vector o ∷ []) (now (floats .entry)) top end r (now (floats .exit)) ⌝ }
 {
-    let p = frame_at(f, at, o);
-    let v = vector_at(f, at + 21, o);
+    let frame = frame_at(floats, top, o);
+    let vector = vector_at(floats, top + 21, o);
     if code == words::AT {
-        return laid(3, rows::apply_at(e, p, v), f, at, end);
+        return laid(3, rows::apply_at(e, frame, vector), floats, top, end);
     }
     Evaluated::Sticks
 }
@@ -183,20 +183,26 @@ pub fn move_row(
     e: Ellipsoid,
     code: u64,
     o: Orientation,
-    f: &mut [f64; 2940],
-    at: usize,
+    floats: &mut [f64; 2940],
+    top: usize,
     end: usize,
 ) -> Evaluated
-    requires { ⌜ at + 105 ≤ 2940 ⌝ }
-    ensures { λ r. ⌜ RowLaid e code (frame o ∷ vector o ∷ angle ∷ angle ∷ angle ∷ []) (now (f .entry)) at end r (now (f .exit)) ⌝ }
+    requires { ⌜ top + 105 ≤ 2940 ⌝ }
+    ensures { λ r. ⌜ RowLaid e code (frame o ∷ vector o ∷ angle ∷ angle ∷ angle ∷ []) (now (floats .entry)) top end r (now (floats .exit)) ⌝ }
 {
-    let p = frame_at(f, at, o);
-    let v = vector_at(f, at + 21, o);
-    let x = angle_at(f, at + 42);
-    let y = angle_at(f, at + 63);
-    let z = angle_at(f, at + 84);
+    let frame = frame_at(floats, top, o);
+    let vector = vector_at(floats, top + 21, o);
+    let yaw = angle_at(floats, top + 42);
+    let pitch = angle_at(floats, top + 63);
+    let roll = angle_at(floats, top + 84);
     if code == words::MOVE {
-        return laid(6, frame_rows::apply_move(e, p, v, x, y, z), f, at, end);
+        return laid(
+            6,
+            frame_rows::apply_move(e, frame, vector, yaw, pitch, roll),
+            floats,
+            top,
+            end,
+        );
     }
     Evaluated::Sticks
 }

@@ -20,14 +20,20 @@ ghost use Rattle.sheets.specs.code.rows.KindCodes.{kindAt};
 ghost use Rattle.sheets.specs.code.run.Evaluating.{RowLaid, orientationIn};
 
 // n: deg, m.
-pub fn number_row(e: Ellipsoid, code: u64, f: &mut [f64; 2940], at: usize, end: usize) -> Evaluated
-    requires { ⌜ at + 105 ≤ 2940 ⌝ }
-    ensures { λ r. ⌜ RowLaid e code (number ∷ []) (now (f .entry)) at end r (now (f .exit)) ⌝ }
+pub fn number_row(
+    e: Ellipsoid,
+    code: u64,
+    floats: &mut [f64; 2940],
+    top: usize,
+    end: usize,
+) -> Evaluated
+    requires { ⌜ top + 105 ≤ 2940 ⌝ }
+    ensures { λ r. ⌜ RowLaid e code (number ∷ []) (now (floats .entry)) top end r (now (floats .exit)) ⌝ }
 {
-    let x = number_at(f, at);
+    let number = number_at(floats, top);
     match code {
-        words::DEG => laid(1, rows::apply_deg(e, x), f, at, end),
-        words::M => laid(2, rows::apply_m(e, x), f, at, end),
+        words::DEG => laid(1, rows::apply_deg(e, number), floats, top, end),
+        words::M => laid(2, rows::apply_m(e, number), floats, top, end),
         _ => Evaluated::Sticks,
     }
 }
@@ -45,36 +51,60 @@ fn orientation_of(code: u64) -> Orientation
 }
 
 // l l l: geo, and venu to vwan.
-pub fn lengths_row(e: Ellipsoid, code: u64, f: &mut [f64; 2940], at: usize, end: usize) -> Evaluated
-    requires { ⌜ at + 105 ≤ 2940 ⌝ }
-    ensures { λ r. ⌜ RowLaid e code (len ∷ len ∷ len ∷ []) (now (f .entry)) at end r (now (f .exit)) ⌝ }
+pub fn lengths_row(
+    e: Ellipsoid,
+    code: u64,
+    floats: &mut [f64; 2940],
+    top: usize,
+    end: usize,
+) -> Evaluated
+    requires { ⌜ top + 105 ≤ 2940 ⌝ }
+    ensures { λ r. ⌜ RowLaid e code (len ∷ len ∷ len ∷ []) (now (floats .entry)) top end r (now (floats .exit)) ⌝ }
 {
-    let x = length_at(f, at);
-    let y = length_at(f, at + 21);
-    let z = length_at(f, at + 42);
+    let x = length_at(floats, top);
+    let y = length_at(floats, top + 21);
+    let z = length_at(floats, top + 42);
     match code {
-        words::GEO => laid(3, rows::apply_geo(e, x, y, z), f, at, end),
+        words::GEO => laid(3, rows::apply_geo(e, x, y, z), floats, top, end),
         words::VENU | words::VNED | words::VBODY | words::VWAN => {
             let o = orientation_of(code);
-            laid(5, rows::apply_vector(e, o, x, y, z), f, at, end)
+            laid(5, rows::apply_vector(e, o, x, y, z), floats, top, end)
         }
         _ => Evaluated::Sticks,
     }
 }
 
-// a a l: lla, and aenu to awan.
-pub fn aer_row(e: Ellipsoid, code: u64, f: &mut [f64; 2940], at: usize, end: usize) -> Evaluated
-    requires { ⌜ at + 105 ≤ 2940 ⌝ }
-    ensures { λ r. ⌜ RowLaid e code (angle ∷ angle ∷ len ∷ []) (now (f .entry)) at end r (now (f .exit)) ⌝ }
+// a a l: lla of latitude, longitude, height, and aenu to awan of azimuth, elevation, range.
+pub fn aer_row(
+    e: Ellipsoid,
+    code: u64,
+    floats: &mut [f64; 2940],
+    top: usize,
+    end: usize,
+) -> Evaluated
+    requires { ⌜ top + 105 ≤ 2940 ⌝ }
+    ensures { λ r. ⌜ RowLaid e code (angle ∷ angle ∷ len ∷ []) (now (floats .entry)) top end r (now (floats .exit)) ⌝ }
 {
-    let x = angle_at(f, at);
-    let y = angle_at(f, at + 21);
-    let z = length_at(f, at + 42);
+    let azimuth = angle_at(floats, top);
+    let elevation = angle_at(floats, top + 21);
+    let range = length_at(floats, top + 42);
     match code {
-        words::LLA => laid(4, rows::apply_lla(e, x, y, z), f, at, end),
+        words::LLA => laid(
+            4,
+            rows::apply_lla(e, azimuth, elevation, range),
+            floats,
+            top,
+            end,
+        ),
         words::AENU | words::ANED | words::ABODY | words::AWAN => {
             let o = orientation_of(code);
-            laid(5, rows::apply_aer(e, o, x, y, z), f, at, end)
+            laid(
+                5,
+                rows::apply_aer(e, o, azimuth, elevation, range),
+                floats,
+                top,
+                end,
+            )
         }
         _ => Evaluated::Sticks,
     }
@@ -85,20 +115,26 @@ pub fn position_row(
     e: Ellipsoid,
     code: u64,
     kind: u8,
-    f: &mut [f64; 2940],
-    at: usize,
+    floats: &mut [f64; 2940],
+    top: usize,
     end: usize,
 ) -> Evaluated
-    requires { ⌜ (3 ≤ kind) × (kind ≤ 4) × (at + 105 ≤ 2940) ⌝ }
-    ensures { λ r. ⌜ RowLaid e code (kindAt kind ∷ []) (now (f .entry)) at end r (now (f .exit)) ⌝ }
+    requires { ⌜ (3 ≤ kind) × (kind ≤ 4) × (top + 105 ≤ 2940) ⌝ }
+    ensures { λ r. ⌜ RowLaid e code (kindAt kind ∷ []) (now (floats .entry)) top end r (now (floats .exit)) ⌝ }
 {
-    let p = value_at(kind, f, at);
+    let position = value_at(kind, floats, top);
     match code {
-        words::TOGEO => laid(3, frame_rows::apply_togeo(e, p), f, at, end),
-        words::TOLLA => laid(4, frame_rows::apply_tolla(e, p), f, at, end),
+        words::TOGEO => laid(3, frame_rows::apply_togeo(e, position), floats, top, end),
+        words::TOLLA => laid(4, frame_rows::apply_tolla(e, position), floats, top, end),
         words::ENU | words::NED => {
             let ned = code == words::NED;
-            laid(6, frame_rows::apply_level(e, ned, p), f, at, end)
+            laid(
+                6,
+                frame_rows::apply_level(e, ned, position),
+                floats,
+                top,
+                end,
+            )
         }
         _ => Evaluated::Sticks,
     }
@@ -109,17 +145,23 @@ pub fn wan_row(
     e: Ellipsoid,
     code: u64,
     kind: u8,
-    f: &mut [f64; 2940],
-    at: usize,
+    floats: &mut [f64; 2940],
+    top: usize,
     end: usize,
 ) -> Evaluated
-    requires { ⌜ at + 105 ≤ 2940 ⌝ }
-    ensures { λ r. ⌜ RowLaid e code (angle ∷ kindAt kind ∷ []) (now (f .entry)) at end r (now (f .exit)) ⌝ }
+    requires { ⌜ top + 105 ≤ 2940 ⌝ }
+    ensures { λ r. ⌜ RowLaid e code (angle ∷ kindAt kind ∷ []) (now (floats .entry)) top end r (now (floats .exit)) ⌝ }
 {
-    let x = angle_at(f, at);
-    let p = value_at(kind, f, at + 21);
+    let azimuth = angle_at(floats, top);
+    let position = value_at(kind, floats, top + 21);
     if code == words::WAN {
-        return laid(6, frame_rows::apply_wan(e, x, p), f, at, end);
+        return laid(
+            6,
+            frame_rows::apply_wan(e, azimuth, position),
+            floats,
+            top,
+            end,
+        );
     }
     Evaluated::Sticks
 }
@@ -129,19 +171,25 @@ pub fn body_row(
     e: Ellipsoid,
     code: u64,
     kind: u8,
-    f: &mut [f64; 2940],
-    at: usize,
+    floats: &mut [f64; 2940],
+    top: usize,
     end: usize,
 ) -> Evaluated
-    requires { ⌜ at + 105 ≤ 2940 ⌝ }
-    ensures { λ r. ⌜ RowLaid e code (angle ∷ angle ∷ angle ∷ kindAt kind ∷ []) (now (f .entry)) at end r (now (f .exit)) ⌝ }
+    requires { ⌜ top + 105 ≤ 2940 ⌝ }
+    ensures { λ r. ⌜ RowLaid e code (angle ∷ angle ∷ angle ∷ kindAt kind ∷ []) (now (floats .entry)) top end r (now (floats .exit)) ⌝ }
 {
-    let x = angle_at(f, at);
-    let y = angle_at(f, at + 21);
-    let z = angle_at(f, at + 42);
-    let p = value_at(kind, f, at + 63);
+    let yaw = angle_at(floats, top);
+    let pitch = angle_at(floats, top + 21);
+    let roll = angle_at(floats, top + 42);
+    let position = value_at(kind, floats, top + 63);
     if code == words::BODY {
-        return laid(6, frame_rows::apply_body(e, x, y, z, p), f, at, end);
+        return laid(
+            6,
+            frame_rows::apply_body(e, yaw, pitch, roll, position),
+            floats,
+            top,
+            end,
+        );
     }
     Evaluated::Sticks
 }
@@ -151,18 +199,24 @@ pub fn look_row(
     e: Ellipsoid,
     code: u64,
     kind: u8,
-    f: &mut [f64; 2940],
-    at: usize,
+    floats: &mut [f64; 2940],
+    top: usize,
     end: usize,
 ) -> Evaluated
-    requires { ⌜ at + 105 ≤ 2940 ⌝ }
-    ensures { λ r. ⌜ RowLaid e code (kindAt kind ∷ kindAt kind ∷ angle ∷ []) (now (f .entry)) at end r (now (f .exit)) ⌝ }
+    requires { ⌜ top + 105 ≤ 2940 ⌝ }
+    ensures { λ r. ⌜ RowLaid e code (kindAt kind ∷ kindAt kind ∷ angle ∷ []) (now (floats .entry)) top end r (now (floats .exit)) ⌝ }
 {
-    let p = value_at(kind, f, at);
-    let q = value_at(kind, f, at + 21);
-    let x = angle_at(f, at + 42);
+    let position = value_at(kind, floats, top);
+    let target = value_at(kind, floats, top + 21);
+    let roll = angle_at(floats, top + 42);
     if code == words::LOOK {
-        return laid(6, frame_rows::apply_look(e, p, q, x), f, at, end);
+        return laid(
+            6,
+            frame_rows::apply_look(e, position, target, roll),
+            floats,
+            top,
+            end,
+        );
     }
     Evaluated::Sticks
 }

@@ -14,23 +14,23 @@ abbrev μ-loop : tie.MeasureT-loop
 loop-holds : tie.Need-loop-holds Inv-loop μ-loop
 loop-holds c = copying-none _ _ _
 
-add-f : tie.Need-add-f Inv-loop μ-loop
-add-f c = omega arith
+add-floats : tie.Need-add-floats Inv-loop μ-loop
+add-floats c = omega arith
 
-mul-f : tie.Need-mul-f Inv-loop μ-loop
-mul-f c = omega arith
+mul-floats : tie.Need-mul-floats Inv-loop μ-loop
+mul-floats c = omega arith
 
-element-copy-out-f : tie.Need-element-copy-out-f Inv-loop μ-loop
-element-copy-out-f c = omega arith
+element-copy-out-floats : tie.Need-element-copy-out-floats Inv-loop μ-loop
+element-copy-out-floats c = omega arith
 
-add-f-2 : tie.Need-add-f-2 Inv-loop μ-loop
-add-f-2 c = omega arith
+add-floats-2 : tie.Need-add-floats-2 Inv-loop μ-loop
+add-floats-2 c = omega arith
 
-mul-f-2 : tie.Need-mul-f-2 Inv-loop μ-loop
-mul-f-2 c = omega arith
+mul-floats-2 : tie.Need-mul-floats-2 Inv-loop μ-loop
+mul-floats-2 c = omega arith
 
-element-write-f : tie.Need-element-write-f Inv-loop μ-loop
-element-write-f c = omega arith
+element-write-floats : tie.Need-element-write-floats Inv-loop μ-loop
+element-write-floats c = omega arith
 
 add-n : tie.Need-add-n Inv-loop μ-loop
 add-n c = omega arith
@@ -51,12 +51,12 @@ copy-floats-spec =
     Inv-loop
     μ-loop
     loop-holds
-    add-f
-    mul-f
-    element-copy-out-f
-    add-f-2
-    mul-f-2
-    element-write-f
+    add-floats
+    mul-floats
+    element-copy-out-floats
+    add-floats-2
+    mul-floats-2
+    element-write-floats
     add-n
     loop-less
     loop-again

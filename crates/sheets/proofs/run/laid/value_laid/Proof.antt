@@ -16,11 +16,11 @@ enum-known-v c = search needs
 returns : tie.Need-returns
 returns c = other-laid _ _ _ _ _ (0 ∷ 2 ∷ 3 ∷ 4 ∷ 5 ∷ 6 ∷ []) (c .match2 .keys2) (λ o. miss (0 ∷ 2 ∷ 3 ∷ 4 ∷ 5 ∷ 6 ∷ []) 1 tt (subst (OneOf (0 ∷ 2 ∷ 3 ∷ 4 ∷ 5 ∷ 6 ∷ [])) (c .before .match .keys1) o))
 
-mul-f : tie.Need-mul-f
-mul-f c = search needs
+mul-floats : tie.Need-mul-floats
+mul-floats c = search needs
 
-element-write-f : tie.Need-element-write-f
-element-write-f c = search needs
+element-write-floats : tie.Need-element-write-floats
+element-write-floats c = search needs
 
 tested-requires : tie.Need-tested-requires
 tested-requires c κs = search needs
@@ -31,11 +31,11 @@ enum-known-v-2 c = search needs
 returns-2 : tie.Need-returns-2
 returns-2 c = other-laid _ _ _ _ _ (0 ∷ 1 ∷ 3 ∷ 4 ∷ 5 ∷ 6 ∷ []) (c .match3 .keys2) (λ o. miss (0 ∷ 1 ∷ 3 ∷ 4 ∷ 5 ∷ 6 ∷ []) 2 tt (subst (OneOf (0 ∷ 1 ∷ 3 ∷ 4 ∷ 5 ∷ 6 ∷ [])) (c .before .match .keys2) o))
 
-mul-f-2 : tie.Need-mul-f-2
-mul-f-2 c = search needs
+mul-floats-2 : tie.Need-mul-floats-2
+mul-floats-2 c = search needs
 
-element-write-f-2 : tie.Need-element-write-f-2
-element-write-f-2 c = search needs
+element-write-floats-2 : tie.Need-element-write-floats-2
+element-write-floats-2 c = search needs
 
 tested-requires-2 : tie.Need-tested-requires-2
 tested-requires-2 c κs = search needs
@@ -61,14 +61,14 @@ returns-4 c = other-laid _ _ _ _ _ (0 ∷ 1 ∷ 2 ∷ 3 ∷ 5 ∷ 6 ∷ []) (c .
 lay-three-requires-2 : tie.Need-lay-three-requires-2
 lay-three-requires-2 c κs = search needs
 
-add-f : tie.Need-add-f
-add-f c = search needs
+add-floats : tie.Need-add-floats
+add-floats c = search needs
 
-mul-f-3 : tie.Need-mul-f-3
-mul-f-3 c = search needs
+mul-floats-3 : tie.Need-mul-floats-3
+mul-floats-3 c = search needs
 
-element-write-f-3 : tie.Need-element-write-f-3
-element-write-f-3 c = search needs
+element-write-floats-3 : tie.Need-element-write-floats-3
+element-write-floats-3 c = search needs
 
 tested-requires-4 : tie.Need-tested-requires-4
 tested-requires-4 c κs = search needs
@@ -110,10 +110,10 @@ tested-requires-6 : tie.Need-tested-requires-6
 tested-requires-6 c κs = search needs
 
 returns-7 : tie.Need-returns-7
-returns-7 c = value-laid _ _ _ _ _ _ (c .before .before .before .v .given .1) _ _ refl (λ lf. lies-angle (now (c .before .before .before .before .before .before .args .f)) lf _ (c .before .before .before .before .before .before .pre .1) _) (kept-set (now (c .before .before .before .before .before .before .args .f)) _ _) 1 refl _ (c .tested .ensures)
+returns-7 c = value-laid _ _ _ _ _ _ (c .before .before .before .v .given .1) _ _ refl (λ lf. lies-angle (now (c .before .before .before .before .before .before .args .floats)) lf _ (c .before .before .before .before .before .before .pre .1) _) (kept-set (now (c .before .before .before .before .before .before .args .floats)) _ _) 1 refl _ (c .tested .ensures)
 
 returns-8 : tie.Need-returns-8
-returns-8 c = value-laid _ _ _ _ _ _ (c .before .before .before .v2 .given .1) _ _ refl (λ lf. lies-length (now (c .before .before .before .before .before .before .args .f)) lf _ (c .before .before .before .before .before .before .pre .1) _) (kept-set (now (c .before .before .before .before .before .before .args .f)) _ _) 2 refl _ (c .tested2 .ensures)
+returns-8 c = value-laid _ _ _ _ _ _ (c .before .before .before .v2 .given .1) _ _ refl (λ lf. lies-length (now (c .before .before .before .before .before .before .args .floats)) lf _ (c .before .before .before .before .before .before .pre .1) _) (kept-set (now (c .before .before .before .before .before .before .args .floats)) _ _) 2 refl _ (c .tested2 .ensures)
 
 returns-9 : tie.Need-returns-9
 returns-9 c = value-laid _ _ _ _ _ _ (c .before .before .before .before .before .v3 .given .1) _ _ (c .before .before .lay-three .ensures) (λ lf. lies-geocentric _ lf _ (c .before .before .before .before .before .before .before .before .pre .1) _) (kept-lay _ _ _) 3 refl _ (c .tested3 .ensures)
@@ -128,4 +128,4 @@ returns-12 : tie.Need-returns-12
 returns-12 c = value-laid _ _ _ _ _ _ (c .before .before .before .before .before .before .v6 .given .1) _ _ (c .before .before .before .lay-frame .ensures) (λ lf. lies-frame _ lf _ (c .before .before .before .before .before .before .before .before .before .pre .1) _) (kept-lay _ _ _) _ (ap (λ x. 9 + x) (c .before .before .place-of2 .ensures .0)) _ (c .tested6 .ensures)
 
 pub value-laid-spec : {M : Type 1} → statement M
-value-laid-spec = tie.close (tie.spec enum-known-v returns mul-f element-write-f tested-requires enum-known-v-2 returns-2 mul-f-2 element-write-f-2 tested-requires-2 enum-known-v-3 returns-3 lay-three-requires tested-requires-3 enum-known-v-4 returns-4 lay-three-requires-2 add-f mul-f-3 element-write-f-3 tested-requires-4 enum-known-v-5 returns-5 lay-three-requires-3 place-of-requires add-tested tested-requires-5 enum-known-v-6 returns-6 lay-frame-requires place-of-requires-2 add-tested-2 tested-requires-6 returns-7 returns-8 returns-9 returns-10 returns-11 returns-12)
+value-laid-spec = tie.close (tie.spec enum-known-v returns mul-floats element-write-floats tested-requires enum-known-v-2 returns-2 mul-floats-2 element-write-floats-2 tested-requires-2 enum-known-v-3 returns-3 lay-three-requires tested-requires-3 enum-known-v-4 returns-4 lay-three-requires-2 add-floats mul-floats-3 element-write-floats-3 tested-requires-4 enum-known-v-5 returns-5 lay-three-requires-3 place-of-requires add-tested tested-requires-5 enum-known-v-6 returns-6 lay-frame-requires place-of-requires-2 add-tested-2 tested-requires-6 returns-7 returns-8 returns-9 returns-10 returns-11 returns-12)
