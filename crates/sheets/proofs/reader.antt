@@ -15,6 +15,7 @@ pub mod Viewed
 pub mod DoubleSteps
 pub mod ExprSteps
 pub mod PieceSteps
+pub mod StandSteps
 pub mod LineSteps
 pub mod HeadSteps
 pub mod FormSteps

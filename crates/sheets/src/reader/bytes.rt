@@ -1,8 +1,10 @@
 // The bytes of a sheet, one at a time and as words. A place is a byte's number, from 0.
 // Every function here and in the other files of the reader takes every list of bytes and every place.
-ghost use Prim.Native.Nat.{_+_, min};
+ghost use Prim.Native.Nat.{ℕ, _+_, min};
 ghost use mathlib.Core.Path.{_≡_};
-ghost use lib.ListN.{length};
+ghost use mathlib.Core.Bool.{true};
+ghost use mathlib.Core.List.{List, _++_};
+ghost use lib.ListN.{length, drop};
 ghost use Rattle.sheets.specs.code.reader.Codes.{letter, wordChar, digit};
 ghost use Rattle.sheets.specs.code.reader.Reader.{readWord};
 ghost use Rattle.sheets.specs.code.reader.Views.{ByteAt, CharOf, coded};
@@ -18,6 +20,26 @@ pub fn byte(s: &[u8], at: usize) -> u8
     ensures { λ r. ⌜ ByteAt (now (s .entry)) at r ⌝ }
 {
     if at < s.len() { s[at] } else { 0 }
+}
+
+// Whether the bytes at a place begin with w. True is said of such bytes alone; what false says is left open.
+pub(crate) fn stands(s: &[u8], at: usize, w: &[u8]) -> bool
+    ensures { λ r. ⌜ (r ≡ true → (q : List ℕ) × (drop at (now (s .entry)) ≡ now (w .entry) ++ q)) ⌝ }
+{
+    if s.len() < at {
+        return false;
+    }
+    if s.len() - at < w.len() {
+        return false;
+    }
+    let mut i: usize = 0;
+    while i < w.len() {
+        if s[at + i] != w[i] {
+            return false;
+        }
+        i += 1;
+    }
+    true
 }
 
 // 1 to 26 for a to z, else 0.

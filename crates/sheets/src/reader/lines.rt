@@ -1,6 +1,7 @@
 // The lines of a sheet after line 1. `line_head` gives what every reader of a line begins with; `line_end` reads on to its end.
 use crate::reader::bytes::WordRead;
 use crate::reader::bytes::byte;
+use crate::reader::bytes::stands;
 use crate::reader::bytes::word;
 use crate::reader::expr::Read;
 use crate::reader::expr::expr;
@@ -40,6 +41,19 @@ pub fn opening(s: &[u8], at: usize) -> WordRead
         return word(s, at + 1);
     }
     WordRead::Not
+}
+
+// The same: `(show ` and `(let ` are known by their bytes, which is quicker than by the word's code; any other word is read.
+fn line_word(s: &[u8], at: usize) -> WordRead
+    ensures { λ r. ⌜ r ≡ coded (opening (now (s .entry)) at) ⌝ }
+{
+    if stands(s, at, b"(show ") {
+        return WordRead::Is(words::SHOW, at + 5);
+    }
+    if stands(s, at, b"(let ") {
+        return WordRead::Is(words::LET, at + 4);
+    }
+    opening(s, at)
 }
 
 // A space and a word.
@@ -111,7 +125,7 @@ fn first_word(s: &[u8], at: usize) -> NameRead
 pub fn line_head(s: &[u8], at: usize) -> LineHead
     ensures { λ r. ⌜ r ≡ lineHead at (readBegun (now (s .entry)) at) ⌝ }
 {
-    let k = opening(s, at);
+    let k = line_word(s, at);
     let WordRead::Is(code, n) = k else {
         return LineHead::Bad;
     };
