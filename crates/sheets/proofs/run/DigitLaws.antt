@@ -146,6 +146,27 @@ over-is x (y ∷ ys) (h, hs) =
     upper : (v s x : ℕ) → x < 16 → (v * 256 + x + (s * 256 + 6)) / 16 / 256 ≡ (v + s) / 16
     upper v s x h = ap (λ (a : ℕ). a / 256) (sixteenth v s x h) ∙ omega arith
 
+over-below : (xs : List ℕ) → Below 16 xs → Below 2 (each over xs)
+over-below [] _ = tt
+over-below (x ∷ xs) (h, hs) = (omega arith, over-below xs hs)
+
+-- of 127 times 0 or 1 in each byte the bits of 39
+bits-of : (x : ℕ) → x < 2 → bitAnd (x * 127) 39 ≡ x * 39
+bits-of zero h = refl
+bits-of (suc zero) h = refl
+bits-of (suc (suc x)) h = absurd (omega arith)
+
+bits-are : (x : ℕ) (xs : List ℕ) → Below 2 (x ∷ xs) → bitAnd (word (x ∷ xs) * 127) (same 39 (length xs)) ≡ word (x ∷ xs) * 39
+bits-are x [] (h, _) = let e : 0 * 256 + x ≡ x = omega arith in ap (λ (n : ℕ). bitAnd (n * 127) 39) e ∙ bits-of x h ∙ sym (ap (λ (n : ℕ). n * 39) e)
+bits-are x (y ∷ ys) (h, hs) =
+    let v = word (y ∷ ys) in
+    let s = same 39 (length ys) in
+    let e : (v * 256 + x) * 127 ≡ v * 127 * 256 + x * 127 = omega arith in
+    ap (λ (n : ℕ). bitAnd n (s * 256 + 39)) e
+    ∙ and-block 8 (v * 127) s (x * 127) 39 (omega arith) (omega arith)
+    ∙ ap₂ (λ (a b : ℕ). a * 256 + b) (bits-are y ys hs) (bits-of x h)
+    ∙ omega arith
+
 digit-is : (x : ℕ) → x < 16 → x + 48 + over x * 39 ≡ hexDigit x
 digit-is x h = by (ltb x 10) refl
   where
@@ -175,14 +196,16 @@ digits-below (x ∷ xs) (h, hs) = (omega (arith, digit-is x h), digits-below xs 
 -- ---- all eight
 
 abbrev pub digits : ℕ → ℕ
-digits c = c + 0x3030_3030_3030_3030 + bitAnd ((c + 0x606_0606_0606_0606) / 16) 0x101_0101_0101_0101 * 39
+digits c = c + 0x3030_3030_3030_3030 + bitAnd (bitAnd ((c + 0x606_0606_0606_0606) / 16) 0x101_0101_0101_0101 * 127) 0x2727_2727_2727_2727
 
 digits-are : (x₀ x₁ x₂ x₃ x₄ x₅ x₆ x₇ : ℕ) → let xs = x₀ ∷ x₁ ∷ x₂ ∷ x₃ ∷ x₄ ∷ x₅ ∷ x₆ ∷ x₇ ∷ [] in Below 16 xs → digits (word xs) ≡ word (each hexDigit xs)
 unfolding mask
 digits-are x₀ x₁ x₂ x₃ x₄ x₅ x₆ x₇ h =
     let xs = x₁ ∷ x₂ ∷ x₃ ∷ x₄ ∷ x₅ ∷ x₆ ∷ x₇ ∷ [] in
     let v = word (x₀ ∷ xs) in
-    ap (λ (k : ℕ). v + 0x3030_3030_3030_3030 + k * 39) (and-kept 7 1 7 ((v + 0x606_0606_0606_0606) / 16) ∙ over-is x₀ xs h) ∙ sum-is x₀ xs h
+    ap (λ (k : ℕ). v + 0x3030_3030_3030_3030 + bitAnd (k * 127) 0x2727_2727_2727_2727) (and-kept 7 1 7 ((v + 0x606_0606_0606_0606) / 16) ∙ over-is x₀ xs h)
+    ∙ ap (λ (k : ℕ). v + 0x3030_3030_3030_3030 + k) (bits-are (over x₀) (each over xs) (over-below (x₀ ∷ xs) h))
+    ∙ sum-is x₀ xs h
 
 values : (p₀ p₁ p₂ p₃ p₄ p₅ p₆ p₇ n : ℕ) → p₀ < 16 → p₁ < 16 → p₂ < 16 → p₃ < 16 → p₄ < 16 → p₅ < 16 → p₆ < 16 → p₇ < 16
     → n % 0x1_0000 ≡ ((p₃ * 16 + p₂) * 16 + p₁) * 16 + p₀ → n / 0x1_0000 % 0x1_0000 ≡ ((p₇ * 16 + p₆) * 16 + p₅) * 16 + p₄

@@ -17,7 +17,7 @@ pub fn put_byte(b: u8, out: &mut [u8], at: usize) -> usize
     at + 1
 }
 
-// The eight last digits of n, the first of them in the lowest byte. The last 32 bits of n are cut in halves three times, each time the higher half put below the lower: 16 bits, bytes, and the values of the digits, which are then the bytes. 48 is added to each, and 39 more to each above 9.
+// The eight last digits of n, the first of them in the lowest byte. The last 32 bits of n are cut in halves three times, each time the higher half put below the lower: 16 bits, bytes, and the values of the digits, which are then the bytes. 48 is added to each, and 39 more to each above 9: these bits of 127, since a product by 127 is a shift and a difference, and one by 39 is not.
 fn digits_of(n: u64) -> u64
     ensures { λ r. ⌜ bytes 8 r ≡ hex 8 n [] ⌝ }
 {
@@ -25,7 +25,7 @@ fn digits_of(n: u64) -> u64
     let b = (a / 0x100 & 0xff_0000_00ff) + (a & 0xff_0000_00ff) * 0x10000;
     let c = (b / 16 & 0xf_000f_000f_000f) + (b & 0xf_000f_000f_000f) * 0x100;
     let over = (c + 0x606_0606_0606_0606) / 16 & 0x101_0101_0101_0101;
-    c + 0x3030_3030_3030_3030 + over * 39
+    c + 0x3030_3030_3030_3030 + (over * 127 & 0x2727_2727_2727_2727)
 }
 
 // The eight last digits of n, stored.

@@ -1,8 +1,8 @@
 -- `sheets::run::fields::digits_of` meets its contract. Assumes nothing.
 use native.Mathlib.Omega.{arith}
 use borrow.Author.Needs.{needs}
-use Prim.Native.Nat.{_+_, _/_}
-use lib.Bits.{and-le-r}
+use Prim.Native.Nat.{_+_, _*_, _/_}
+use lib.Bits.{bitAnd, and-le-r}
 use Rattle.sheets.proofs.run.DigitLaws.{halfA, halfB, halfC, halfB-most, halfC-most, eight}
 use Rattle.sheets.proofs.run.fields.digits_of.Statement.{statement}
 use Rattle.sheets.proofs.run.fields.digits_of.Tie as tie
@@ -35,7 +35,7 @@ mul-result : tie.Need-mul-result
 mul-result c = omega (arith, and-le-r ((halfC (halfB (halfA (c .args .n))) + 0x606_0606_0606_0606) / 16) 0x101_0101_0101_0101)
 
 add-result-2 : tie.Need-add-result-2
-add-result-2 c = omega (arith, halfC-most (halfB (halfA (c .args .n))), and-le-r ((halfC (halfB (halfA (c .args .n))) + 0x606_0606_0606_0606) / 16) 0x101_0101_0101_0101)
+add-result-2 c = omega (arith, halfC-most (halfB (halfA (c .args .n))), and-le-r (bitAnd ((halfC (halfB (halfA (c .args .n))) + 0x606_0606_0606_0606) / 16) 0x101_0101_0101_0101 * 127) 0x2727_2727_2727_2727)
 
 returns : tie.Need-returns
 returns c = eight (c .args .n)
