@@ -13,29 +13,28 @@ use Rattle.sheets.specs.declared.rows.value.Value.{Value}
 use Rattle.sheets.specs.declared.rows.value.Value.the-variants.{Number, Radians, Metres, Geocentric, Geodetic, Vector, Frame}
 use Rattle.sheets.specs.Kinds.{kindOf, kindCode, kindName, place, vector, frame}
 use Rattle.sheets.specs.Output.{fields, fieldsText}
-use Rattle.sheets.specs.code.run.Writing.{writes, Written, zero64, padded, fieldCount, nameSize, kindText, valueText}
-use Rattle.sheets.proofs.rows.KindRowLaws.{kind-small}
+use Rattle.sheets.specs.code.run.Writing.{writes, Written, zero64, padded, fieldCount, kindText, valueText}
 use Rattle.sheets.proofs.run.TextBound.{fields-length, few, name-length}
 use Rattle.sheets.proofs.run.WritingLaws.{written-then, fields-then}
 
 -- ---- a kind by its code: its name, and how many fields
 
 vector-told : (o : Orientation) → (kindText (5 + place o) ≡ kindName (vector o)) × (fieldCount (5 + place o) ≡ 3)
-unfolding kindText nameSize fieldCount
+unfolding kindText fieldCount
 vector-told Enu = (refl, refl)
 vector-told Ned = (refl, refl)
 vector-told Body = (refl, refl)
 vector-told Wan = (refl, refl)
 
 frame-told : (o : Orientation) → (kindText (9 + place o) ≡ kindName (frame o)) × (fieldCount (9 + place o) ≡ 12)
-unfolding kindText nameSize fieldCount
+unfolding kindText fieldCount
 frame-told Enu = (refl, refl)
 frame-told Ned = (refl, refl)
 frame-told Body = (refl, refl)
 frame-told Wan = (refl, refl)
 
 code-told : (v : Value) → (kindText (kindCode (kindOf v)) ≡ kindName (kindOf v)) × (fieldCount (kindCode (kindOf v)) ≡ length (fields v))
-unfolding kindText nameSize fieldCount
+unfolding kindText fieldCount
 code-told (Number x) = (refl, refl)
 code-told (Radians x) = (refl, refl)
 code-told (Metres x) = (refl, refl)
@@ -45,8 +44,8 @@ code-told (Vector x) = vector-told (x .orientation)
 code-told (Frame x) = frame-told (x .orientation)
 
 module _ (v : Value) (k : ℕ) (e : k ≡ kindCode (kindOf v)) where
-  pub code-small : (k < 13) × (length (kindText k) ≤ 5)
-  code-small = (omega (arith, e, kind-small (kindOf v)), omega (arith, ap (λ i. length (kindText i)) e, ap (λ b. length b) (code-told v .0), name-length (kindOf v)))
+  pub name-small : length (kindText k) ≤ 5
+  name-small = omega (arith, ap (λ i. length (kindText i)) e, ap (λ b. length b) (code-told v .0), name-length (kindOf v))
 
   counted : fieldCount k ≡ length (fields v)
   counted = ap fieldCount e ∙ code-told v .1

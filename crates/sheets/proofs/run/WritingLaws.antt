@@ -6,7 +6,7 @@ use native.Mathlib.Omega.{arith}
 use mathlib.Core.Path.{_≡_, refl, sym, ap, _∙_, subst}
 use mathlib.Core.List.{List, [], _∷_, _++_, append-assoc}
 use lib.ListN.{length, getD, set, length-set, length-append, length-drop, take, drop}
-use lib.Seq.{sets, sets-eq, take-append-seam, drop-append-add, drop-drop, drop-cons, length-take-le}
+use lib.Seq.{sets, sets-eq, take-append-seam, drop-append-add, drop-drop, drop-cons, length-take-le, take-length}
 use lib.Ieee.{Float, binary64, toBits}
 use Rattle.sheets.specs.Answers.{laid}
 use Rattle.sheets.specs.Output.{hex, field, fieldsText}
@@ -95,3 +95,7 @@ name-written o d s at from i m n le ge e k inv =
   where
     z : 0 ≡ n - i
     z = omega arith
+
+-- a text is the part from its beginning to its end
+pub all-written : (s : List ℕ) {d e : List ℕ} {at r : ℕ} → Written d at (part s 0 (length s)) e r → Written d at s e r
+all-written s {d} {e} {at} {r} p = let z : length s - 0 ≡ length s = omega arith in subst (λ t. Written d at t e r) (ap (λ n. take n s) z ∙ take-length s) p

@@ -5,9 +5,9 @@ use crate::run::fields::put_byte;
 use crate::run::fields::put_fields;
 ghost use mathlib.Core.Path.{_≡_};
 ghost use mathlib.Core.List.{_∷_};
-ghost use Prim.Native.Nat.{_+_, _-_, _<_, _≤_};
+ghost use Prim.Native.Nat.{_+_, _-_, _≤_};
 ghost use lib.ListN.{length, replicate};
-ghost use Rattle.sheets.specs.code.run.Writing.{Written, part, zero64, padded, fieldCount, nameSize, kindText, valueText, fitting, room, lineIf};
+ghost use Rattle.sheets.specs.code.run.Writing.{Written, part, zero64, padded, fieldCount, kindText, valueText, fitting, room, lineIf};
 
 // Four fields, and 0 behind them up to twelve.
 fn short_fields(a: f64, b: f64, c: f64, d: f64) -> [f64; 12]
@@ -60,36 +60,34 @@ fn field_count(kind: u8) -> usize
     12
 }
 
-// How many letters its name has.
-fn name_size(kind: u8) -> usize
-    ensures { λ r. ⌜ (r ≡ nameSize kind) × (r ≤ 5) ⌝ }
+// A text.
+fn put_text(w: &[u8], out: &mut [u8], at: usize) -> usize
+    requires { ⌜ at + length (now w) ≤ length (now out) ⌝ }
+    ensures { λ r. ⌜ Written (now (out .entry)) at (now (w .entry)) (now (out .exit)) r ⌝ }
 {
-    if kind < 5 {
-        return 1;
-    }
-    if kind == 7 {
-        return 5;
-    }
-    if kind == 11 {
-        return 5;
-    }
-    4
+    put_name(w, 0, w.len(), out, at)
 }
 
-// Its name. In the string of all names each has five places.
+// Its name. Each stands for itself: from a table of all names it would be copied by a call.
 fn put_kind(kind: u8, out: &mut [u8], at: usize) -> usize
-    requires { ⌜ (kind < 13) × (at + 5 ≤ length (now out)) ⌝ }
+    requires { ⌜ at + 5 ≤ length (now out) ⌝ }
     ensures { λ r. ⌜ Written (now (out .entry)) at (kindText kind) (now (out .exit)) r ⌝ }
 {
-    let from = kind as usize * 5;
-    let size = name_size(kind);
-    put_name(
-        b"n    a    l    g    d    venu vned vbodyvwan fenu fned fbodyfwan ",
-        from,
-        from + size,
-        out,
-        at,
-    )
+    match kind {
+        0 => put_text(b"n", out, at),
+        1 => put_text(b"a", out, at),
+        2 => put_text(b"l", out, at),
+        3 => put_text(b"g", out, at),
+        4 => put_text(b"d", out, at),
+        5 => put_text(b"venu", out, at),
+        6 => put_text(b"vned", out, at),
+        7 => put_text(b"vbody", out, at),
+        8 => put_text(b"vwan", out, at),
+        9 => put_text(b"fenu", out, at),
+        10 => put_text(b"fned", out, at),
+        11 => put_text(b"fbody", out, at),
+        _ => put_text(b"fwan", out, at),
+    }
 }
 
 // The value's kind and its fields: at most 209 bytes, five letters and twelve fields of 17.

@@ -10,6 +10,7 @@ use Rattle.sheets.specs.declared.rows.value.Value.{Value}
 use Rattle.sheets.specs.Text.{ascii, _⌢_}
 use Rattle.sheets.specs.Kinds.{kindOf, kindName}
 use Rattle.sheets.specs.Table.{when}
+use Rattle.sheets.specs.code.rows.KindCodes.{kindAt}
 use Rattle.sheets.specs.Output.{fields, fieldsText, outputLine}
 
 -- a buffer after bytes were stored one by one from a place on
@@ -37,15 +38,9 @@ padded x = fields x ++ replicate (12 - length (fields x)) zero64
 unfoldable pub fieldCount : ℕ → ℕ
 fieldCount k = when (ltb k 3) 1 (when (eqb k 4) 4 (when (ltb k 9) 3 12))
 
--- the names of the kinds in the order of their codes, in five places each, and how many letters a name has
-abbrev pub names : List ℕ
-names = ascii "n    a    l    g    d    venu vned vbodyvwan fenu fned fbodyfwan "
-
-unfoldable pub nameSize : ℕ → ℕ
-nameSize k = when (ltb k 5) 1 (when (eqb k 7) 5 (when (eqb k 11) 5 4))
-
+-- the name of the kind with this code
 unfoldable pub kindText : ℕ → List ℕ
-kindText k = part names (k * 5) (k * 5 + nameSize k)
+kindText k = kindName (kindAt k)
 
 -- kind and fields
 unfoldable pub valueText : Value → List ℕ

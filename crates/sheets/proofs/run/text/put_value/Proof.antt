@@ -1,6 +1,6 @@
 -- `sheets::run::text::put_value` meets its contract. Assumes nothing.
 use native.Mathlib.Omega.{arith}
-use Rattle.sheets.proofs.run.ValueText.{code-small, count-small, value-written}
+use Rattle.sheets.proofs.run.ValueText.{name-small, count-small, value-written}
 use borrow.Author.Needs.{needs}
 use Rattle.sheets.proofs.run.text.put_value.Statement.{statement}
 use Rattle.sheets.proofs.run.text.put_value.Tie as tie
@@ -15,9 +15,7 @@ field-count-requires : tie.Need-field-count-requires
 field-count-requires c κs = search needs
 
 put-kind-requires : tie.Need-put-kind-requires
-put-kind-requires c κs =
-    let c₁ = c .before .before .before in
-    (code-small (c₁ .before .before .args .v) (c₁ .kind-of .result) (c₁ .kind-of .ensures) .0, omega arith)
+put-kind-requires c κs = omega arith
 
 put-fields-requires : tie.Need-put-fields-requires
 put-fields-requires c κs =
@@ -26,7 +24,7 @@ put-fields-requires c κs =
     let c₃ = c₂ .before in
     let c₄ = c₃ .before in
     let v = c₄ .before .before .args .v in
-    let n = code-small v (c₄ .kind-of .result) (c₄ .kind-of .ensures) .1 in
+    let n = name-small v (c₄ .kind-of .result) (c₄ .kind-of .ensures) in
     let m = count-small v (c₄ .kind-of .result) (c₄ .kind-of .ensures) (c₃ .fields-of .result) (c₃ .fields-of .ensures) in
     let e = c₂ .field-count .ensures in
     (omega (arith, m .0, e), omega (arith, m .1, e), omega (arith, m .0, e, n, c₁ .put-kind .ensures .end, c₁ .put-kind .kept .1 .0))
