@@ -54,18 +54,19 @@ pub fn letter(b: u8) -> u64
     0
 }
 
-// 1 to 26 for a to z, 27 to 36 for 0 to 9, else 0. Tested in this order, a letter costs two short branches in the loop of `word`.
+// 1 to 26 for a to z, 27 to 36 for 0 to 9, else 0. Tested in this order: what ends a word, a space or a bracket, is known by one test.
 pub fn word_char(b: u8) -> u64
     ensures { λ r. ⌜ CharOf 36 (wordChar b) b r ⌝ }
 {
-    if b <= 122 {
-        if 97 <= b {
+    if b < 48 {
+        return 0;
+    }
+    if b <= 57 {
+        return (b - 21) as u64;
+    }
+    if 97 <= b {
+        if b <= 122 {
             return (b - 96) as u64;
-        }
-        if b <= 57 {
-            if 48 <= b {
-                return (b - 21) as u64;
-            }
         }
     }
     0
