@@ -1,40 +1,73 @@
 -- Bytes that stand at a place, as the code compares them, and a line's word known by them. Assumes nothing.
-use Prim.Native.Nat.{ℕ, suc, _+_, _-_, _<_, _≤_}
+use Prim.Native.Nat.{ℕ, suc, _+_, _<_, _≤_}
 use native.Mathlib.Omega.{arith}
 use native.Mathlib.Numerals.{add-one}
 use mathlib.Core.Path.{_≡_, refl, sym, ap, ap₂, _∙_}
+use mathlib.Core.Bool.{Bool, true, false}
 use mathlib.Core.List.{List, [], _∷_, _++_}
-use lib.ListN.{length, getD, drop, length-drop, length-append, drop-of-length-le}
+use lib.Dec.{eqb, leb}
+use lib.ListN.{length, getD, drop, drop-of-length-le}
 use lib.Seq.{drop-cons}
+use borrow.Author.Tests.{le-leb, lt-leb, leb-true, eq-eqb, ne-eqb, eqb-true}
 use Rattle.sheets.specs.Text.{Word, ascii}
 use Rattle.sheets.specs.Grammar.{IsWord}
+use Rattle.sheets.specs.Table.{when}
 use Rattle.sheets.specs.code.reader.Codes.{letter, wordChar, codeFrom, codeOf}
 use Rattle.sheets.specs.code.reader.Reader.{got, charsIf, chars, wordIf, readWord, opening}
-use Rattle.sheets.specs.code.reader.Views.{coded}
+use Rattle.sheets.specs.code.reader.Views.{begins, standsAt, coded}
 use Rattle.sheets.specs.declared.reader.bytes.WordRead.{WordRead}
 use Rattle.sheets.proofs.reader.Spans.{Spans, spans-split, spans-end, drop-spans}
 use Rattle.sheets.proofs.reader.ReaderLaws.{open-is}
 use Rattle.sheets.proofs.reader.TokenLaws.{space-stops, word-complete}
 use Rattle.sheets.proofs.reader.CodeLaws.{word-by}
 
--- ---- the loop: where the bytes behind the first i begin with the rest of w, all do with w
-module _ (s w : List ℕ) (at : ℕ) where
-  pub begins-start : (q : List ℕ) → drop (at + 0) s ≡ drop 0 w ++ q → drop at s ≡ w ++ q
-  begins-start q h = let z : at ≡ at + 0 = omega arith in ap (λ i. drop i s) z ∙ h
+-- ---- the loop: all of w stands there where the rest of it begins the bytes behind the first i
+module _ (w s : List ℕ) (at : ℕ) where
+  pub stands-short : length s < at + length w → false ≡ standsAt w s at
+  unfolding standsAt
+  stands-short h = rw (lt-leb (at + length w) (length s) h) refl
+
+  pub stands-start : at + length w ≤ length s → standsAt w s at ≡ begins (drop 0 w) (drop (at + 0) s)
+  unfolding standsAt
+  stands-start h = let z : at ≡ at + 0 = omega arith in rw (le-leb (at + length w) (length s) h) (ap (λ i. begins w (drop i s)) z)
 
   module _ (i : ℕ) where
-    pub begins-turn : i < length w → at + i < length s → getD s (at + i) 0 ≡ getD w i 0 → (q : List ℕ) → drop (at + (i + 1)) s ≡ drop (i + 1) w ++ q → drop (at + i) s ≡ drop i w ++ q
-    begins-turn h k e q t =
-        let z : suc (at + i) ≡ at + (i + 1) = omega arith in
-        drop-cons s (at + i) 0 k ∙ ap₂ (λ b r. b ∷ r) e (ap (λ j. drop j s) z ∙ t ∙ ap (λ j. drop j w ++ q) (add-one i)) ∙ sym (ap (λ r. r ++ q) (drop-cons w i 0 h))
+    pub begins-end : length w ≤ i → true ≡ begins (drop i w) (drop (at + i) s)
+    unfolding begins
+    begins-end h = rw (drop-of-length-le w h) refl
 
-    pub begins-end : length w ≤ i → drop (at + i) s ≡ drop i w ++ drop (at + i) s
-    begins-end h = sym (ap (λ r. r ++ drop (at + i) s) (drop-of-length-le w h))
+    module _ (h : i < length w) (k : at + i < length s) where
+      by-heads : begins (drop i w) (drop (at + i) s) ≡ when (eqb (getD s (at + i) 0) (getD w i 0)) (begins (drop (suc i) w) (drop (suc (at + i)) s)) false
+      unfolding begins
+      by-heads = ap₂ begins (drop-cons w i 0 h) (drop-cons s (at + i) 0 k)
+
+      pub begins-turn : getD s (at + i) 0 ≡ getD w i 0 → begins (drop i w) (drop (at + i) s) ≡ begins (drop (i + 1) w) (drop (at + (i + 1)) s)
+      begins-turn e =
+          let z : suc (at + i) ≡ at + (i + 1) = omega arith in
+          by-heads ∙ ap (λ b. when b (begins (drop (suc i) w) (drop (suc (at + i)) s)) false) (eq-eqb (getD s (at + i) 0) (getD w i 0) e) ∙ ap₂ (λ a b. begins (drop a w) (drop b s)) (sym (add-one i)) z
+
+      pub begins-not : (getD s (at + i) 0 ≡ getD w i 0 → ⊥) → false ≡ begins (drop i w) (drop (at + i) s)
+      begins-not e = sym (by-heads ∙ ap (λ b. when b (begins (drop (suc i) w) (drop (suc (at + i)) s)) false) (ne-eqb (getD s (at + i) 0) (getD w i 0) e))
 
 -- ---- a line's word
-module _ (s w q : List ℕ) (at : ℕ) (e : drop at s ≡ w ++ q) where
-  pub stands-inside : length w ≤ length s - at
-  stands-inside = omega (arith, sym (length-drop at s) ∙ ap length e ∙ length-append w q)
+
+begun : (w l : List ℕ) → begins w l ≡ true → (q : List ℕ) × (l ≡ w ++ q)
+unfolding begins
+begun [] l e = (l, refl)
+begun (b ∷ w) [] e = let z : _≡_ {A = ℕ} 0 1 = cc in absurd (omega arith)
+begun (b ∷ w) (a ∷ l) e = go (eqb a b) refl (begun w l) e
+  where
+    go : (t : Bool) → eqb a b ≡ t → (begins w l ≡ true → (q : List ℕ) × (l ≡ w ++ q)) → when t (begins w l) false ≡ true → (q : List ℕ) × (a ∷ l ≡ (b ∷ w) ++ q)
+    go true h k e = let (q, eq) = k e in (q, ap₂ (λ x r. x ∷ r) (eqb-true a b h) eq)
+    go false h k e = let z : _≡_ {A = ℕ} 0 1 = cc in absurd (omega arith)
+
+pub stands-begun : (w s : List ℕ) (at : ℕ) → standsAt w s at ≡ true → (q : List ℕ) × (drop at s ≡ w ++ q) × (at + length w ≤ length s)
+unfolding standsAt
+stands-begun w s at e = go (leb (at + length w) (length s)) refl e
+  where
+    go : (t : Bool) → leb (at + length w) (length s) ≡ t → when t (begins w (drop at s)) false ≡ true → (q : List ℕ) × (drop at s ≡ w ++ q) × (at + length w ≤ length s)
+    go true h e = let (q, eq) = begun w (drop at s) e in (q, eq, leb-true (at + length w) (length s) h)
+    go false h e = let z : _≡_ {A = ℕ} 0 1 = cc in absurd (omega arith)
 
 module _ (s : List ℕ) (at : ℕ) (q : List ℕ) where
   opened : (v : Word) → IsWord v → (n : ℕ) → n ≡ at + 1 + length v → drop at s ≡ ((40 ∷ v) ++ (32 ∷ [])) ++ q → WordRead.Is (codeOf v) n ≡ coded (opening s at)

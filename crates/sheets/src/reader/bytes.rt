@@ -1,13 +1,11 @@
 // The bytes of a sheet, one at a time and as words. A place is a byte's number, from 0.
 // Every function here and in the other files of the reader takes every list of bytes and every place.
-ghost use Prim.Native.Nat.{ℕ, _+_, min};
+ghost use Prim.Native.Nat.{_+_, min};
 ghost use mathlib.Core.Path.{_≡_};
-ghost use mathlib.Core.Bool.{true};
-ghost use mathlib.Core.List.{List, _++_};
-ghost use lib.ListN.{length, drop};
+ghost use lib.ListN.{length};
 ghost use Rattle.sheets.specs.code.reader.Codes.{letter, wordChar, digit};
 ghost use Rattle.sheets.specs.code.reader.Reader.{readWord};
-ghost use Rattle.sheets.specs.code.reader.Views.{ByteAt, CharOf, coded};
+ghost use Rattle.sheets.specs.code.reader.Views.{ByteAt, CharOf, standsAt, coded};
 
 // A word's code in base 37 and the place after it.
 pub enum WordRead {
@@ -22,9 +20,9 @@ pub fn byte(s: &[u8], at: usize) -> u8
     if at < s.len() { s[at] } else { 0 }
 }
 
-// Whether the bytes at a place begin with w. True is said of such bytes alone; what false says is left open.
+// Whether the bytes of w stand at a place.
 pub(crate) fn stands(s: &[u8], at: usize, w: &[u8]) -> bool
-    ensures { λ r. ⌜ (r ≡ true → (q : List ℕ) × (drop at (now (s .entry)) ≡ now (w .entry) ++ q)) ⌝ }
+    ensures { λ r. ⌜ r ≡ standsAt (now (w .entry)) (now (s .entry)) at ⌝ }
 {
     if s.len() < at {
         return false;

@@ -3,12 +3,15 @@
 use Prim.Native.Nat.{ℕ, _+_, _-_, _*_, _≤_}
 use Prim.Native.String.{String}
 use mathlib.Core.Path.{_≡_}
-use mathlib.Core.List.{List}
-use lib.ListN.{length, getD}
+use mathlib.Core.Bool.{Bool, true, false}
+use mathlib.Core.List.{List, [], _∷_}
+use lib.Dec.{eqb, leb}
+use lib.ListN.{length, getD, drop}
 use Rattle.sheets.specs.Text.{Word, ascii}
 use Rattle.sheets.specs.Trees.{Num, decimalFrom, numDigits, Line, let-line, show-line, Head, wgs84, custom, Sheet}
 use Rattle.sheets.specs.code.reader.Codes.{codeOf}
 use Rattle.sheets.specs.code.reader.Reader.{Got, none, got, closing, limit, Begun, let-word, whole, Form, formed, badLine}
+use Rattle.sheets.specs.Table.{when}
 use Rattle.sheets.specs.Limits.{numValue}
 use Rattle.sheets.specs.declared.reader.bytes.WordRead.{WordRead}
 use Rattle.sheets.specs.declared.reader.num.DigitsRead.{DigitsRead}
@@ -34,6 +37,16 @@ pub record CharOf (most n b r : ℕ) : Type 0 where
   pub is : r ≡ n
   pub small : r ≤ most
   pub from-byte : r ≤ b
+
+-- whether the first list stands at the beginning of the second
+unfoldable pub begins : List ℕ → List ℕ → Bool
+begins [] l = true
+begins (b ∷ w) [] = false
+begins (b ∷ w) (a ∷ l) = when (eqb a b) (begins w l) false
+
+-- whether it stands at a place
+unfoldable pub standsAt : List ℕ → List ℕ → ℕ → Bool
+standsAt w s at = when (leb (at + length w) (length s)) (begins w (drop at s)) false
 
 -- ---- words, numbers, expressions
 

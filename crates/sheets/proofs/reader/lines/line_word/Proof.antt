@@ -1,10 +1,8 @@
 -- `sheets::reader::lines::line_word` meets its contract. Assumes nothing.
-use Prim.Native.Nat.{_-_, _≤_}
 use native.Mathlib.Omega.{arith}
-use lib.ListN.{length}
-use Rattle.sheets.specs.Text.{ascii}
+use mathlib.Core.Path.{sym, _∙_}
 use Rattle.sheets.specs.code.reader.Codes.{wordChar, codeFrom}
-use Rattle.sheets.proofs.reader.StandSteps.{stands-inside, opened-show, opened-let}
+use Rattle.sheets.proofs.reader.StandSteps.{stands-begun, opened-show, opened-let}
 use borrow.Author.Needs.{needs}
 use Rattle.sheets.proofs.reader.lines.line_word.Statement.{statement}
 use Rattle.sheets.proofs.reader.lines.line_word.Tie as tie
@@ -16,14 +14,11 @@ stands-requires : tie.Need-stands-requires
 stands-requires c κs = search needs
 
 add-t8 : tie.Need-add-t8
-add-t8 c =
-    let (q, e) = c .before .stands .ensures (c .if1 .taken) in
-    let z : 6 ≤ length (c .before .before .before .before .args .s .now) - c .before .before .before .before .args .at = stands-inside (c .before .before .before .before .args .s .now) (ascii "(show ") q (c .before .before .before .before .args .at) e in
-    omega arith
+add-t8 c = omega (arith, stands-begun _ _ _ (sym (c .before .stands .ensures) ∙ c .if1 .taken) .2)
 
 returns : tie.Need-returns
 unfolding wordChar codeFrom
-returns c = opened-show _ _ _ (c .before .stands .ensures (c .if1 .taken) .1)
+returns c = opened-show _ _ _ (stands-begun _ _ _ (sym (c .before .stands .ensures) ∙ c .if1 .taken) .1)
 
 slice-aggregate-stands-2 : tie.Need-slice-aggregate-stands-2
 slice-aggregate-stands-2 c = search needs
@@ -32,14 +27,11 @@ stands-requires-2 : tie.Need-stands-requires-2
 stands-requires-2 c κs = search needs
 
 add-t12 : tie.Need-add-t12
-add-t12 c =
-    let (q, e) = c .before .stands2 .ensures (c .if2 .taken) in
-    let z : 5 ≤ length (c .before .before .before .before .before .before .before .args .s .now) - c .before .before .before .before .before .before .before .args .at = stands-inside (c .before .before .before .before .before .before .before .args .s .now) (ascii "(let ") q (c .before .before .before .before .before .before .before .args .at) e in
-    omega arith
+add-t12 c = omega (arith, stands-begun _ _ _ (sym (c .before .stands2 .ensures) ∙ c .if2 .taken) .2)
 
 returns-2 : tie.Need-returns-2
 unfolding wordChar codeFrom
-returns-2 c = opened-let _ _ _ (c .before .stands2 .ensures (c .if2 .taken) .1)
+returns-2 c = opened-let _ _ _ (stands-begun _ _ _ (sym (c .before .stands2 .ensures) ∙ c .if2 .taken) .1)
 
 opening-requires : tie.Need-opening-requires
 opening-requires c κs = search needs
