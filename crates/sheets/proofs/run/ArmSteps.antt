@@ -5,12 +5,12 @@ use mathlib.Core.Path.{_≡_, refl, sym, ap, subst, _∙_}
 use mathlib.Core.Bool.{Bool, true, false, _&&_}
 use mathlib.Core.Logic.{inl, inr, ⊎-elim}
 use mathlib.Core.List.{List, [], _∷_, _++_, map}
-use lib.Dec.{T, eqb}
+use lib.Dec.{T, eqb, ltb}
 use lib.Ieee.{Float}
 use mir.Facts.{and-yes}
 use mir.Val.{hasKey}
 use types.Run.{OneOf, hit}
-use borrow.Author.Tests.{eqb-true}
+use borrow.Author.Tests.{eqb-true, ltb-true, ltb-false}
 use Rattle.frames.specs.declared.ellipsoid.Ellipsoid.{Ellipsoid}
 use Rattle.sheets.specs.declared.rows.value.Value.{Value}
 use Rattle.sheets.specs.declared.rows.args.Applied.{Applied}
@@ -103,6 +103,20 @@ not-eq k x m = go (eqb k x) refl
 -- the last of three
 pub third : {A : Type 0} (a b : ℕ) (x y z : A) (n : ℕ) → (n ≡ a → ⊥) → (n ≡ b → ⊥) → z ≡ when (eqb a n) x (when (eqb b n) y z)
 third a b x y z n p q = rw (not-eq a n p, not-eq b n q) refl
+
+pub below-is : {A : Type 0} (k n : ℕ) (x y : A) → k < n → when (ltb k n) x y ≡ x
+below-is k n x y l = go (ltb k n) refl
+  where
+    go : (b : Bool) → ltb k n ≡ b → when b x y ≡ x
+    go true h = refl
+    go false h = absurd (omega (arith, l, ltb-false k n h))
+
+pub beyond-is : {A : Type 0} (k n : ℕ) (x y : A) → n ≤ k → when (ltb k n) x y ≡ y
+beyond-is k n x y l = go (ltb k n) refl
+  where
+    go : (b : Bool) → ltb k n ≡ b → when b x y ≡ y
+    go true h = absurd (omega (arith, l, ltb-true k n h))
+    go false h = refl
 
 -- ---- none of the numbers of some arms, the last arm first
 

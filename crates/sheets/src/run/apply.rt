@@ -19,7 +19,7 @@ use frames::ellipsoid::Ellipsoid;
 use frames::orientation::Orientation;
 ghost use mathlib.Core.Path.{_≡_};
 ghost use Prim.Native.Nat.{_+_, _≤_};
-ghost use Rattle.sheets.specs.code.run.Evaluating.{ForKinds, ForKindsBeyond, plainKeys, orientationAt};
+ghost use Rattle.sheets.specs.code.run.Evaluating.{ForKinds, ForKindsBeyond, plainKeys, orientationAt, orientationBy};
 
 // The row for the word with this code, over arguments of the kinds that made the key, as in kinds.rt: by their kinds, then by the word.
 pub fn apply(
@@ -61,6 +61,19 @@ fn orientation_at(digit: u64) -> Orientation
     }
 }
 
+// The orientation that a key's first digit tells, of one, two or five digits.
+fn orientation_by(key: u64) -> Orientation
+    ensures { λ r. ⌜ r ≡ orientationBy key ⌝ }
+{
+    if key < 0x10 {
+        return orientation_at(key);
+    }
+    if key < 0x100 {
+        return orientation_at(key / 0x10);
+    }
+    orientation_at(key / 0x10000)
+}
+
 // The keys with a vector or a frame in them; where there are two, they share the orientation, and the first digit tells it.
 fn oriented_row(
     e: Ellipsoid,
@@ -73,24 +86,16 @@ fn oriented_row(
     requires { ⌜ top + 105 ≤ 2940 ⌝ }
     ensures { λ r. ⌜ ForKindsBeyond plainKeys e code key (now (floats .entry)) top end r (now (floats .exit)) ⌝ }
 {
+    let o = orientation_by(key);
     match key {
-        0x6 | 0x7 | 0x8 | 0x9 => vector_row(e, code, orientation_at(key), floats, top, end),
-        0x66 | 0x77 | 0x88 | 0x99 => vectors_row(
-            e,
-            code,
-            orientation_at(key / 16),
-            floats,
-            top,
-            end,
-        ),
-        0x61 | 0x71 | 0x81 | 0x91 => scale_row(e, code, orientation_at(key / 16), floats, top, end),
-        0xa | 0xb | 0xc | 0xd => frame_row(e, code, orientation_at(key), floats, top, end),
-        0xa2 | 0xb2 | 0xd2 => turn_row(e, code, orientation_at(key / 16), floats, top, end),
-        0xa4 | 0xb4 | 0xc4 | 0xd4 => to_row(e, code, orientation_at(key / 16), floats, top, end),
-        0xa6 | 0xb7 | 0xc8 | 0xd9 => at_row(e, code, orientation_at(key / 16), floats, top, end),
-        0xa6222 | 0xb7222 | 0xc8222 | 0xd9222 => {
-            move_row(e, code, orientation_at(key / 0x10000), floats, top, end)
-        }
+        0x6 | 0x7 | 0x8 | 0x9 => vector_row(e, code, o, floats, top, end),
+        0x66 | 0x77 | 0x88 | 0x99 => vectors_row(e, code, o, floats, top, end),
+        0x61 | 0x71 | 0x81 | 0x91 => scale_row(e, code, o, floats, top, end),
+        0xa | 0xb | 0xc | 0xd => frame_row(e, code, o, floats, top, end),
+        0xa2 | 0xb2 | 0xd2 => turn_row(e, code, o, floats, top, end),
+        0xa4 | 0xb4 | 0xc4 | 0xd4 => to_row(e, code, o, floats, top, end),
+        0xa6 | 0xb7 | 0xc8 | 0xd9 => at_row(e, code, o, floats, top, end),
+        0xa6222 | 0xb7222 | 0xc8222 | 0xd9222 => move_row(e, code, o, floats, top, end),
         _ => Evaluated::Sticks,
     }
 }

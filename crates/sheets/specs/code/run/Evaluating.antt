@@ -1,9 +1,9 @@
 -- What the evaluator answers, by what the machine comes to.
 -- No part of what must be believed: the run's answer is said by the machine.
-use Prim.Native.Nat.{ℕ, _+_}
+use Prim.Native.Nat.{ℕ, _+_, _/_}
 use mathlib.Core.Path.{_≡_}
 use mathlib.Core.List.{List, [], _∷_, _++_}
-use lib.Dec.{eqb}
+use lib.Dec.{eqb, ltb}
 use lib.ListN.{length}
 use lib.Ieee.{Float}
 use mir.Val.{hasKey}
@@ -82,16 +82,20 @@ unfoldable pub plainKeys : List ℕ
 plainKeys = 0x552 ∷ 0x442 ∷ 0x2225 ∷ 0x2224 ∷ 0x25 ∷ 0x24 ∷ 0x5 ∷ 0x4 ∷ 0x223 ∷ 0x333 ∷ 0x1 ∷ []
 
 -- the orientation whose numbers hold this one, or the last
-abbrev orientationBy : (Orientation → List ℕ) → ℕ → Orientation
-orientationBy ns n = when (hasKey (ns Enu) n) Enu (when (hasKey (ns Ned) n) Ned (when (hasKey (ns Body) n) Body Wan))
+abbrev orientationOf : (Orientation → List ℕ) → ℕ → Orientation
+orientationOf ns n = when (hasKey (ns Enu) n) Enu (when (hasKey (ns Ned) n) Ned (when (hasKey (ns Body) n) Body Wan))
 
 -- by the digit, in a key, of a vector's or a frame's kind
 unfoldable pub orientationAt : ℕ → Orientation
-orientationAt = orientationBy (λ o. (6 + place o) ∷ (10 + place o) ∷ [])
+orientationAt = orientationOf (λ o. (6 + place o) ∷ (10 + place o) ∷ [])
+
+-- by a key's first digit, of one, two or five
+unfoldable pub orientationBy : ℕ → Orientation
+orientationBy k = when (ltb k 0x10) (orientationAt k) (when (ltb k 0x100) (orientationAt (k / 0x10)) (orientationAt (k / 0x10000)))
 
 -- by the code of a word that makes a vector
 unfoldable pub orientationIn : ℕ → Orientation
-orientationIn = orientationBy (λ o. codeOf (aerWord o) ∷ codeOf (vectorWord o) ∷ [])
+orientationIn = orientationOf (λ o. codeOf (aerWord o) ∷ codeOf (vectorWord o) ∷ [])
 
 -- the axis by the code of a word for an angle of a frame
 unfoldable pub axisIn : ℕ → Axis

@@ -1,106 +1,77 @@
 -- `sheets::run::apply::oriented_row` meets its contract. Assumes nothing.
-use Prim.Native.Nat.{ℕ, _/_}
+use Prim.Native.Nat.{ℕ}
 use mathlib.Core.Path.{refl}
 use mathlib.Core.List.{List, [], _∷_}
-use Rattle.frames.specs.declared.orientation.Orientation.{Orientation}
 use Rattle.frames.specs.declared.orientation.Orientation.the-variants.{Enu, Ned, Body, Wan}
 use Rattle.sheets.specs.Kinds.{number, angle, geocentric, vector, frame}
 use Rattle.sheets.specs.Table.{table}
 use Rattle.sheets.specs.Lookup.{kindRows}
 use Rattle.sheets.specs.code.rows.KindCodes.{keyFrom}
-use Rattle.sheets.specs.code.run.Evaluating.{plainKeys, orientationAt}
+use Rattle.sheets.specs.code.run.Evaluating.{plainKeys, orientationAt, orientationBy}
 use Rattle.sheets.proofs.run.ArmSteps.{from, one-from, none-below, none-above, flat, missed-flat}
 use Rattle.sheets.proofs.run.KeySteps.{by-orientation, no-kinds}
 use borrow.Author.Needs.{needs}
 use Rattle.sheets.proofs.run.apply.oriented_row.Statement.{statement}
 use Rattle.sheets.proofs.run.apply.oriented_row.Tie as tie
 
-orientation-at-requires : tie.Need-orientation-at-requires
-orientation-at-requires c κs = search needs
+orientation-by-requires : tie.Need-orientation-by-requires
+orientation-by-requires c κs = search needs
 
 vectors-row-requires : tie.Need-vectors-row-requires
 vectors-row-requires c κs = search needs
 
-orientation-at-requires-2 : tie.Need-orientation-at-requires-2
-orientation-at-requires-2 c κs = search needs
-
 scale-row-requires : tie.Need-scale-row-requires
 scale-row-requires c κs = search needs
-
-orientation-at-requires-3 : tie.Need-orientation-at-requires-3
-orientation-at-requires-3 c κs = search needs
 
 turn-row-requires : tie.Need-turn-row-requires
 turn-row-requires c κs = search needs
 
-orientation-at-requires-4 : tie.Need-orientation-at-requires-4
-orientation-at-requires-4 c κs = search needs
-
 to-row-requires : tie.Need-to-row-requires
 to-row-requires c κs = search needs
-
-orientation-at-requires-5 : tie.Need-orientation-at-requires-5
-orientation-at-requires-5 c κs = search needs
 
 at-row-requires : tie.Need-at-row-requires
 at-row-requires c κs = search needs
 
-orientation-at-requires-6 : tie.Need-orientation-at-requires-6
-orientation-at-requires-6 c κs = search needs
-
 move-row-requires : tie.Need-move-row-requires
 move-row-requires c κs = search needs
-
-orientation-at-requires-7 : tie.Need-orientation-at-requires-7
-orientation-at-requires-7 c κs = search needs
 
 vector-row-requires : tie.Need-vector-row-requires
 vector-row-requires c κs = search needs
 
-orientation-at-requires-8 : tie.Need-orientation-at-requires-8
-orientation-at-requires-8 c κs = search needs
-
 frame-row-requires : tie.Need-frame-row-requires
 frame-row-requires c κs = search needs
 
--- by the first digit of two and of five
-abbrev second : ℕ → Orientation
-second k = orientationAt (k / 16)
-
-abbrev fifth : ℕ → Orientation
-fifth k = orientationAt (k / 0x10000)
-
 returns : tie.Need-returns
-unfolding keyFrom orientationAt
-returns c = record { is = λ m. by-orientation (λ o. vector o ∷ vector o ∷ []) second (Enu ∷ Ned ∷ Body ∷ Wan ∷ []) (refl, (refl, (refl, (refl, tt)))) (c .before .before .before .match .keys1) (c .before .before .orientation-at .ensures) (c .vectors-row .ensures) }
+unfolding keyFrom orientationAt orientationBy
+returns c = record { is = λ m. by-orientation (λ o. vector o ∷ vector o ∷ []) orientationBy (Enu ∷ Ned ∷ Body ∷ Wan ∷ []) (refl, (refl, (refl, (refl, tt)))) (c .before .before .match .keys1) (c .before .before .before .orientation-by .ensures) (c .vectors-row .ensures) }
 
 returns-2 : tie.Need-returns-2
-unfolding keyFrom orientationAt
-returns-2 c = record { is = λ m. by-orientation (λ o. vector o ∷ number ∷ []) second (Enu ∷ Ned ∷ Body ∷ Wan ∷ []) (refl, (refl, (refl, (refl, tt)))) (c .before .before .before .match .keys2) (c .before .before .orientation-at2 .ensures) (c .scale-row .ensures) }
+unfolding keyFrom orientationAt orientationBy
+returns-2 c = record { is = λ m. by-orientation (λ o. vector o ∷ number ∷ []) orientationBy (Enu ∷ Ned ∷ Body ∷ Wan ∷ []) (refl, (refl, (refl, (refl, tt)))) (c .before .before .match .keys2) (c .before .before .before .orientation-by .ensures) (c .scale-row .ensures) }
 
 returns-3 : tie.Need-returns-3
-unfolding keyFrom orientationAt
-returns-3 c = record { is = λ m. by-orientation (λ o. frame o ∷ angle ∷ []) second (Enu ∷ Ned ∷ Wan ∷ []) (refl, (refl, (refl, tt))) (c .before .before .before .match .keys3) (c .before .before .orientation-at3 .ensures) (c .turn-row .ensures) }
+unfolding keyFrom orientationAt orientationBy
+returns-3 c = record { is = λ m. by-orientation (λ o. frame o ∷ angle ∷ []) orientationBy (Enu ∷ Ned ∷ Wan ∷ []) (refl, (refl, (refl, tt))) (c .before .before .match .keys3) (c .before .before .before .orientation-by .ensures) (c .turn-row .ensures) }
 
 returns-4 : tie.Need-returns-4
-unfolding keyFrom orientationAt
-returns-4 c = record { is = λ m. by-orientation (λ o. frame o ∷ geocentric ∷ []) second (Enu ∷ Ned ∷ Body ∷ Wan ∷ []) (refl, (refl, (refl, (refl, tt)))) (c .before .before .before .match .keys4) (c .before .before .orientation-at4 .ensures) (c .to-row .ensures) }
+unfolding keyFrom orientationAt orientationBy
+returns-4 c = record { is = λ m. by-orientation (λ o. frame o ∷ geocentric ∷ []) orientationBy (Enu ∷ Ned ∷ Body ∷ Wan ∷ []) (refl, (refl, (refl, (refl, tt)))) (c .before .before .match .keys4) (c .before .before .before .orientation-by .ensures) (c .to-row .ensures) }
 
 returns-5 : tie.Need-returns-5
-unfolding keyFrom orientationAt
-returns-5 c = record { is = λ m. by-orientation (λ o. frame o ∷ vector o ∷ []) second (Enu ∷ Ned ∷ Body ∷ Wan ∷ []) (refl, (refl, (refl, (refl, tt)))) (c .before .before .before .match .keys5) (c .before .before .orientation-at5 .ensures) (c .at-row .ensures) }
+unfolding keyFrom orientationAt orientationBy
+returns-5 c = record { is = λ m. by-orientation (λ o. frame o ∷ vector o ∷ []) orientationBy (Enu ∷ Ned ∷ Body ∷ Wan ∷ []) (refl, (refl, (refl, (refl, tt)))) (c .before .before .match .keys5) (c .before .before .before .orientation-by .ensures) (c .at-row .ensures) }
 
 returns-6 : tie.Need-returns-6
-unfolding keyFrom orientationAt
-returns-6 c = record { is = λ m. by-orientation (λ o. frame o ∷ vector o ∷ angle ∷ angle ∷ angle ∷ []) fifth (Enu ∷ Ned ∷ Body ∷ Wan ∷ []) (refl, (refl, (refl, (refl, tt)))) (c .before .before .before .match .keys6) (c .before .before .orientation-at6 .ensures) (c .move-row .ensures) }
+unfolding keyFrom orientationAt orientationBy
+returns-6 c = record { is = λ m. by-orientation (λ o. frame o ∷ vector o ∷ angle ∷ angle ∷ angle ∷ []) orientationBy (Enu ∷ Ned ∷ Body ∷ Wan ∷ []) (refl, (refl, (refl, (refl, tt)))) (c .before .before .match .keys6) (c .before .before .before .orientation-by .ensures) (c .move-row .ensures) }
 
 returns-7 : tie.Need-returns-7
-unfolding keyFrom orientationAt
-returns-7 c = record { is = λ m. by-orientation (λ o. vector o ∷ []) orientationAt (Enu ∷ Ned ∷ Body ∷ Wan ∷ []) (refl, (refl, (refl, (refl, tt)))) (one-from 6 4 _ (c .before .before .before .before .if1 .left) (c .before .before .before .if2 .taken)) (c .before .before .orientation-at7 .ensures) (c .vector-row .ensures) }
+unfolding keyFrom orientationAt orientationBy
+returns-7 c = record { is = λ m. by-orientation (λ o. vector o ∷ []) orientationBy (Enu ∷ Ned ∷ Body ∷ Wan ∷ []) (refl, (refl, (refl, (refl, tt)))) (one-from 6 4 _ (c .before .before .before .if1 .left) (c .before .before .if2 .taken)) (c .before .before .before .before .before .orientation-by .ensures) (c .vector-row .ensures) }
 
 returns-8 : tie.Need-returns-8
-unfolding keyFrom orientationAt
-returns-8 c = record { is = λ m. by-orientation (λ o. frame o ∷ []) orientationAt (Enu ∷ Ned ∷ Body ∷ Wan ∷ []) (refl, (refl, (refl, (refl, tt)))) (one-from 10 4 _ (c .before .before .before .before .if2 .left) (c .before .before .before .if3 .taken)) (c .before .before .orientation-at8 .ensures) (c .frame-row .ensures) }
+unfolding keyFrom orientationAt orientationBy
+returns-8 c = record { is = λ m. by-orientation (λ o. frame o ∷ []) orientationBy (Enu ∷ Ned ∷ Body ∷ Wan ∷ []) (refl, (refl, (refl, (refl, tt)))) (one-from 10 4 _ (c .before .before .before .if2 .left) (c .before .before .if3 .taken)) (c .before .before .before .before .before .before .orientation-by .ensures) (c .frame-row .ensures) }
 
 -- the keys of the arms, the last first; those of one vector or one frame follow each other
 abbrev arms : List (List ℕ)
@@ -115,4 +86,4 @@ unfolding kindRows table keyFrom plainKeys
 returns-10 c = record { is = λ m. no-kinds plainKeys (flat arms) tt m (missed-flat arms _ (c .before .before .before .match .rest, none-above 6 8 (c .if3 .left))) }
 
 pub oriented-row-spec : {M : Type 1} → statement M
-oriented-row-spec = tie.close (tie.spec orientation-at-requires vectors-row-requires orientation-at-requires-2 scale-row-requires orientation-at-requires-3 turn-row-requires orientation-at-requires-4 to-row-requires orientation-at-requires-5 at-row-requires orientation-at-requires-6 move-row-requires orientation-at-requires-7 vector-row-requires orientation-at-requires-8 frame-row-requires returns returns-2 returns-3 returns-4 returns-5 returns-6 returns-7 returns-8 returns-9 returns-10)
+oriented-row-spec = tie.close (tie.spec orientation-by-requires vectors-row-requires scale-row-requires turn-row-requires to-row-requires at-row-requires move-row-requires vector-row-requires frame-row-requires returns returns-2 returns-3 returns-4 returns-5 returns-6 returns-7 returns-8 returns-9 returns-10)
