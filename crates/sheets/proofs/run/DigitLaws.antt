@@ -10,7 +10,7 @@ use lib.Dec.{ltb}
 use lib.ListN.{length, set}
 use borrow.Author.Tests.{ltb-true, ltb-false}
 use lib.Pow.{pow-pos, pow-mono, split, mod-mod-pow, ones-lt, shr-shr}
-use lib.Bits.{bitAnd, and-block, and-mask, and-le-r}
+use lib.Bits.{bitAnd, bitOr, or-zero-l, or-zero-r, and-block, and-mask, and-le-r, or-shr, or-mod}
 use Rattle.sheets.specs.Output.{hexDigit, hex}
 use Rattle.sheets.specs.code.run.Digits.{bytes}
 use Rattle.sheets.specs.code.run.Writing.{writes, Written}
@@ -36,27 +36,31 @@ and-kept j k (suc m) y =
     ∙ ap (λ (n : ℕ). bitAnd (y / 2 ^ (j + k)) e * 2 ^ (j + k) + n) (and-mask (y % 2 ^ (j + k)) k ∙ mod-mod-pow y j k)
     ∙ ap (λ (n : ℕ). n * 2 ^ (j + k) + y % 2 ^ k) (and-kept j k m (y / 2 ^ (j + k)))
 
--- ---- the halvings
+-- ---- four bytes, turned round, spread to every other byte, and cut in halves
 
-abbrev pub halfA : ℕ → ℕ
-halfA n = n / 0x1_0000 % 0x1_0000 + n % 0x1_0000 * 0x1_0000_0000
+abbrev pub turn : ℕ → ℕ
+turn n = ((n % 256 * 256 + n / 0x100 % 256) * 256 + n / 0x1_0000 % 256) * 256 + n / 0x100_0000 % 256
 
-abbrev pub halfB : ℕ → ℕ
-halfB a = bitAnd (a / 0x100) 0xff_0000_00ff + bitAnd a 0xff_0000_00ff * 0x1_0000
+abbrev pub spreadA : ℕ → ℕ
+spreadA t = bitAnd (bitOr t (t * 0x1_0000)) 0xffff_0000_ffff
+
+abbrev pub spreadB : ℕ → ℕ
+spreadB a = bitAnd (bitOr a (a * 0x100)) 0xff_00ff_00ff_00ff
 
 abbrev pub halfC : ℕ → ℕ
 halfC b = bitAnd (b / 16) 0xf_000f_000f_000f + bitAnd b 0xf_000f_000f_000f * 0x100
 
-and2 : (y : ℕ) → bitAnd y 0xff_0000_00ff ≡ y / 0x1_0000_0000 % 256 * 0x1_0000_0000 + y % 256
+and2 : (y : ℕ) → bitAnd y 0xffff_0000_ffff ≡ y / 0x1_0000_0000 % 0x1_0000 * 0x1_0000_0000 + y % 0x1_0000
 unfolding mask kept
-and2 y = and-kept 24 8 1 y
+and2 y = and-kept 16 16 1 y
+
+and3 : (y : ℕ) → bitAnd y 0xff_00ff_00ff_00ff ≡ ((y / 0x1_0000 / 0x1_0000 / 0x1_0000 % 256 * 0x1_0000 + y / 0x1_0000 / 0x1_0000 % 256) * 0x1_0000 + y / 0x1_0000 % 256) * 0x1_0000 + y % 256
+unfolding mask kept
+and3 y = and-kept 8 8 3 y
 
 and4 : (y : ℕ) → bitAnd y 0xf_000f_000f_000f ≡ ((y / 0x1_0000 / 0x1_0000 / 0x1_0000 % 16 * 0x1_0000 + y / 0x1_0000 / 0x1_0000 % 16) * 0x1_0000 + y / 0x1_0000 % 16) * 0x1_0000 + y % 16
 unfolding mask kept
 and4 y = and-kept 12 4 3 y
-
-and2-of : (y x₀ x₁ y₁ : ℕ) → y % 256 ≡ x₀ → y / 0x1_0000_0000 ≡ y₁ → y₁ % 256 ≡ x₁ → bitAnd y 0xff_0000_00ff ≡ x₁ * 0x1_0000_0000 + x₀
-and2-of y x₀ x₁ y₁ e₀ d₁ e₁ = and2 y ∙ rw (e₀, d₁, e₁) refl
 
 -- four fields of two bytes
 abbrev four : ℕ → ℕ → ℕ → ℕ → ℕ
@@ -66,14 +70,45 @@ and4-of : (y x₀ x₁ x₂ x₃ y₁ y₂ y₃ : ℕ) → y % 16 ≡ x₀ → y
     → bitAnd y 0xf_000f_000f_000f ≡ four x₀ x₁ x₂ x₃
 and4-of y x₀ x₁ x₂ x₃ y₁ y₂ y₃ e₀ d₁ e₁ d₂ e₂ d₃ e₃ = and4 y ∙ rw (e₀, d₁, e₁, d₂, e₂, d₃, e₃) refl
 
-halfB-is : (p q r s : ℕ) → p < 256 → q < 256 → r < 256 → s < 256 → halfB ((p * 256 + q) + (r * 256 + s) * 0x1_0000_0000) ≡ four p q r s
-halfB-is p q r s hp hq hr hs =
-    let a = (p * 256 + q) + (r * 256 + s) * 0x1_0000_0000 in
-    let d : a / 0x100 ≡ p + (r * 256 + s) * 0x100_0000 = omega arith in
-    ap₂ (λ (x y : ℕ). x + y * 0x1_0000)
-    (ap (λ (x : ℕ). bitAnd x 0xff_0000_00ff) d ∙ and2-of (p + (r * 256 + s) * 0x100_0000) p r r (omega arith) (omega arith) (omega arith))
-    (and2-of a q s (r * 256 + s) (omega arith) (omega arith) (omega arith))
-    ∙ omega arith
+or-rest : (k a b x y : ℕ) → a % 2 ^ k ≡ x → b % 2 ^ k ≡ y → bitOr a b % 2 ^ k ≡ bitOr x y
+or-rest k a b x y e f = or-mod a b k ∙ ap₂ (λ (m n : ℕ). bitOr m n) e f
+
+or-quotient : (k a b x y : ℕ) → a / 2 ^ k ≡ x → b / 2 ^ k ≡ y → bitOr a b / 2 ^ k ≡ bitOr x y
+or-quotient k a b x y e f = or-shr a b k ∙ ap₂ (λ (m n : ℕ). bitOr m n) e f
+
+turn-is : (n x₀ x₁ x₂ x₃ : ℕ) → n % 256 ≡ x₀ → n / 0x100 % 256 ≡ x₁ → n / 0x1_0000 % 256 ≡ x₂ → n / 0x100_0000 % 256 ≡ x₃ → turn n ≡ (x₀ * 256 + x₁) * 0x1_0000 + (x₂ * 256 + x₃)
+turn-is n x₀ x₁ x₂ x₃ e₀ e₁ e₂ e₃ =
+    ap₂ (λ (x y : ℕ). ((x * 256 + y) * 256 + n / 0x1_0000 % 256) * 256 + n / 0x100_0000 % 256) e₀ e₁
+    ∙ ap₂ (λ (x y : ℕ). ((x₀ * 256 + x₁) * 256 + x) * 256 + y) e₂ e₃
+    ∙ flat x₀ x₁ x₂ x₃
+  where
+    flat : (x₀ x₁ x₂ x₃ : ℕ) → ((x₀ * 256 + x₁) * 256 + x₂) * 256 + x₃ ≡ (x₀ * 256 + x₁) * 0x1_0000 + (x₂ * 256 + x₃)
+    flat x₀ x₁ x₂ x₃ = omega arith
+
+spreadA-is : (x y : ℕ) → x < 0x1_0000 → y < 0x1_0000 → spreadA (y * 0x1_0000 + x) ≡ y * 0x1_0000_0000 + x
+spreadA-is x y hx hy =
+    let t = y * 0x1_0000 + x in
+    let low : bitOr t (t * 0x1_0000) % 0x1_0000 ≡ x = or-rest 16 t (t * 0x1_0000) x 0 (omega arith) (omega arith) ∙ or-zero-r x in
+    let high : bitOr t (t * 0x1_0000) / 0x1_0000_0000 ≡ y = or-quotient 32 t (t * 0x1_0000) 0 y (omega arith) (omega arith) ∙ or-zero-l y in
+    let top : y % 0x1_0000 ≡ y = omega arith in
+    and2 (bitOr t (t * 0x1_0000)) ∙ ap₂ (λ (m n : ℕ). m % 0x1_0000 * 0x1_0000_0000 + n) high low ∙ ap (λ (m : ℕ). m * 0x1_0000_0000 + x) top
+
+and3-of : (y x₀ x₁ x₂ x₃ y₁ y₂ y₃ : ℕ) → y % 256 ≡ x₀ → y / 0x1_0000 ≡ y₁ → y₁ % 256 ≡ x₁ → y₁ / 0x1_0000 ≡ y₂ → y₂ % 256 ≡ x₂ → y₂ / 0x1_0000 ≡ y₃ → y₃ % 256 ≡ x₃
+    → bitAnd y 0xff_00ff_00ff_00ff ≡ four x₀ x₁ x₂ x₃
+and3-of y x₀ x₁ x₂ x₃ y₁ y₂ y₃ e₀ d₁ e₁ d₂ e₂ d₃ e₃ = and3 y ∙ rw (e₀, d₁, e₁, d₂, e₂, d₃, e₃) refl
+
+spreadB-is : (p q r s : ℕ) → p < 256 → q < 256 → r < 256 → s < 256 → spreadB ((s * 256 + r) * 0x1_0000_0000 + (q * 256 + p)) ≡ four p q r s
+spreadB-is p q r s hp hq hr hs =
+    let v = s * 256 + r in
+    let a = v * 0x1_0000_0000 + (q * 256 + p) in
+    and3-of (bitOr a (a * 0x100)) p q r s (bitOr (v * 0x1_0000) (v * 0x100_0000 + q)) (bitOr v (v * 0x100)) (bitOr 0 s)
+    (or-rest 8 a (a * 0x100) p 0 (omega arith) (omega arith) ∙ or-zero-r p)
+    (or-quotient 16 a (a * 0x100) (v * 0x1_0000) (v * 0x100_0000 + q) (omega arith) (omega arith))
+    (or-rest 8 (v * 0x1_0000) (v * 0x100_0000 + q) 0 q (omega arith) (omega arith) ∙ or-zero-l q)
+    (or-quotient 16 (v * 0x1_0000) (v * 0x100_0000 + q) v (v * 0x100) (omega arith) (omega arith))
+    (or-rest 8 v (v * 0x100) r 0 (omega arith) (omega arith) ∙ or-zero-r r)
+    (or-quotient 16 v (v * 0x100) 0 s (omega arith) (omega arith))
+    (or-rest 8 0 s 0 s refl (omega arith) ∙ or-zero-l s)
 
 halfC-is : (p₀ q₀ p₁ q₁ p₂ q₂ p₃ q₃ : ℕ) → p₀ < 16 → q₀ < 16 → p₁ < 16 → q₁ < 16 → p₂ < 16 → q₂ < 16 → p₃ < 16 → q₃ < 16
     → halfC (four (p₀ * 16 + q₀) (p₁ * 16 + q₁) (p₂ * 16 + q₂) (p₃ * 16 + q₃)) ≡ four (p₀ + q₀ * 256) (p₁ + q₁ * 256) (p₂ + q₂ * 256) (p₃ + q₃ * 256)
@@ -209,13 +244,34 @@ digits-are x₀ x₁ x₂ x₃ x₄ x₅ x₆ x₇ h =
 
 values : (p₀ p₁ p₂ p₃ p₄ p₅ p₆ p₇ n : ℕ) → p₀ < 16 → p₁ < 16 → p₂ < 16 → p₃ < 16 → p₄ < 16 → p₅ < 16 → p₆ < 16 → p₇ < 16
     → n % 0x1_0000 ≡ ((p₃ * 16 + p₂) * 16 + p₁) * 16 + p₀ → n / 0x1_0000 % 0x1_0000 ≡ ((p₇ * 16 + p₆) * 16 + p₅) * 16 + p₄
-    → halfC (halfB (halfA n)) ≡ word (p₇ ∷ p₆ ∷ p₅ ∷ p₄ ∷ p₃ ∷ p₂ ∷ p₁ ∷ p₀ ∷ [])
+    → halfC (spreadB (spreadA (turn n))) ≡ word (p₇ ∷ p₆ ∷ p₅ ∷ p₄ ∷ p₃ ∷ p₂ ∷ p₁ ∷ p₀ ∷ [])
 values p₀ p₁ p₂ p₃ p₄ p₅ p₆ p₇ n h₀ h₁ h₂ h₃ h₄ h₅ h₆ h₇ l u =
-    let a : halfA n ≡ ((p₇ * 16 + p₆) * 256 + (p₅ * 16 + p₄)) + ((p₃ * 16 + p₂) * 256 + (p₁ * 16 + p₀)) * 0x1_0000_0000 = omega arith in
-    ap (λ (x : ℕ). halfC (halfB x)) a
-    ∙ ap (λ (x : ℕ). halfC x) (halfB-is (p₇ * 16 + p₆) (p₅ * 16 + p₄) (p₃ * 16 + p₂) (p₁ * 16 + p₀) (omega arith) (omega arith) (omega arith) (omega arith))
+    let b₀ : n % 256 ≡ p₁ * 16 + p₀ = low n _ _ _ _ h₀ h₁ l in
+    let b₁ : n / 0x100 % 256 ≡ p₃ * 16 + p₂ = high n _ _ _ _ h₀ h₁ h₂ h₃ l in
+    let b₂ : n / 0x1_0000 % 256 ≡ p₅ * 16 + p₄ = low (n / 0x1_0000) _ _ _ _ h₄ h₅ u in
+    let b₃ : n / 0x100_0000 % 256 ≡ p₇ * 16 + p₆ = ap (λ (x : ℕ). x % 256) (sym (shr-shr n 16 8)) ∙ high (n / 0x1_0000) _ _ _ _ h₄ h₅ h₆ h₇ u in
+    let a = turn-is n (p₁ * 16 + p₀) (p₃ * 16 + p₂) (p₅ * 16 + p₄) (p₇ * 16 + p₆) b₀ b₁ b₂ b₃ in
+    let c₀ = pair p₁ p₀ h₁ h₀ in
+    let c₁ = pair p₃ p₂ h₃ h₂ in
+    let c₂ = pair p₅ p₄ h₅ h₄ in
+    let c₃ = pair p₇ p₆ h₇ h₆ in
+    ap (λ (x : ℕ). halfC (spreadB (spreadA x))) a
+    ∙ ap (λ (x : ℕ). halfC (spreadB x)) (spreadA-is ((p₅ * 16 + p₄) * 256 + (p₇ * 16 + p₆)) ((p₁ * 16 + p₀) * 256 + (p₃ * 16 + p₂)) (two _ _ c₂ c₃) (two _ _ c₀ c₁))
+    ∙ ap (λ (x : ℕ). halfC x) (spreadB-is (p₇ * 16 + p₆) (p₅ * 16 + p₄) (p₃ * 16 + p₂) (p₁ * 16 + p₀) c₃ c₂ c₁ c₀)
     ∙ halfC-is p₇ p₆ p₅ p₄ p₃ p₂ p₁ p₀ h₇ h₆ h₅ h₄ h₃ h₂ h₁ h₀
     ∙ omega arith
+  where
+    pair : (p q : ℕ) → p < 16 → q < 16 → p * 16 + q < 256
+    pair p q hp hq = omega arith
+
+    two : (x y : ℕ) → x < 256 → y < 256 → x * 256 + y < 0x1_0000
+    two x y hx hy = omega arith
+
+    low : (n p₀ p₁ p₂ p₃ : ℕ) → p₀ < 16 → p₁ < 16 → n % 0x1_0000 ≡ ((p₃ * 16 + p₂) * 16 + p₁) * 16 + p₀ → n % 256 ≡ p₁ * 16 + p₀
+    low n p₀ p₁ p₂ p₃ h₀ h₁ l = omega arith
+
+    high : (n p₀ p₁ p₂ p₃ : ℕ) → p₀ < 16 → p₁ < 16 → p₂ < 16 → p₃ < 16 → n % 0x1_0000 ≡ ((p₃ * 16 + p₂) * 16 + p₁) * 16 + p₀ → n / 0x100 % 256 ≡ p₃ * 16 + p₂
+    high n p₀ p₁ p₂ p₃ h₀ h₁ h₂ h₃ l = omega arith
 
 -- four digits of a number
 low-four : (n : ℕ) → n % 0x1_0000 ≡ ((n / 16 / 16 / 16 % 16 * 16 + n / 16 / 16 % 16) * 16 + n / 16 % 16) * 16 + n % 16
@@ -226,7 +282,7 @@ low-four n =
 past-four : (n : ℕ) → n / 0x1_0000 ≡ n / 16 / 16 / 16 / 16
 past-four n = sym (ap (λ (k : ℕ). k / 16) (ap (λ (k : ℕ). k / 16) (shr-shr n 4 4) ∙ shr-shr n 8 4) ∙ shr-shr n 12 4)
 
-pub eight : (n : ℕ) → bytes 8 (digits (halfC (halfB (halfA n)))) ≡ hex 8 n []
+pub eight : (n : ℕ) → bytes 8 (digits (halfC (spreadB (spreadA (turn n))))) ≡ hex 8 n []
 eight n =
     let n₁ = n / 16 in
     let n₂ = n₁ / 16 in
@@ -245,9 +301,6 @@ eight n =
     below k = omega arith
 
 -- ---- the steps fit
-
-pub halfB-most : (a : ℕ) → halfB a ≤ 0xff_00ff_00ff_00ff
-halfB-most a = omega (arith, and-le-r (a / 0x100) 0xff_0000_00ff, and-le-r a 0xff_0000_00ff)
 
 pub halfC-most : (b : ℕ) → halfC b ≤ 0xf0f_0f0f_0f0f_0f0f
 halfC-most b = omega (arith, and-le-r (b / 16) 0xf_000f_000f_000f, and-le-r b 0xf_000f_000f_000f)

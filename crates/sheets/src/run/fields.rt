@@ -17,12 +17,14 @@ pub fn put_byte(b: u8, out: &mut [u8], at: usize) -> usize
     at + 1
 }
 
-// The eight last digits of n, the first of them in the lowest byte. The last 32 bits of n are cut in halves three times, each time the higher half put below the lower: 16 bits, bytes, and the values of the digits, which are then the bytes. 48 is added to each, and 39 more to each above 9: these bits of 127, since a product by 127 is a shift and a difference, and one by 39 is not.
+// The eight last digits of n, the first of them in the lowest byte. The last four bytes of n are turned round, spread to every other byte, in two steps, and each is cut into the values of its two digits, which are then the bytes. 48 is added to each, and 39 more to each above 9: these bits of 127, since a product by 127 is a shift and a difference, and one by 39 is not.
 fn digits_of(n: u64) -> u64
     ensures { λ r. ⌜ bytes 8 r ≡ hex 8 n [] ⌝ }
 {
-    let a = n / 0x10000 % 0x10000 + (n % 0x10000) * 0x1_0000_0000;
-    let b = (a / 0x100 & 0xff_0000_00ff) + (a & 0xff_0000_00ff) * 0x10000;
+    let t = ((n % 256 * 256 + n / 0x100 % 256) * 256 + n / 0x1_0000 % 256) * 256
+        + n / 0x100_0000 % 256;
+    let a = (t | t * 0x1_0000) & 0xffff_0000_ffff;
+    let b = (a | a * 0x100) & 0xff_00ff_00ff_00ff;
     let c = (b / 16 & 0xf_000f_000f_000f) + (b & 0xf_000f_000f_000f) * 0x100;
     let over = (c + 0x606_0606_0606_0606) / 16 & 0x101_0101_0101_0101;
     c + 0x3030_3030_3030_3030 + (over * 127 & 0x2727_2727_2727_2727)
