@@ -229,7 +229,7 @@ abbrev inSome : List (List ℕ) → ℕ → Bool
 inSome [] x = false
 inSome (ks ∷ kss) x = hasKey ks x || inSome kss x
 
-abbrev MissedEach : List (List ℕ) → ℕ → Type 0
+abbrev pub MissedEach : List (List ℕ) → ℕ → Type 0
 MissedEach [] x = Unit {0}
 MissedEach (ks ∷ kss) x = MissedEach kss x × (OneOf ks x → ⊥)
 

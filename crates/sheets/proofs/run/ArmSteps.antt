@@ -25,12 +25,14 @@ use Rattle.sheets.specs.code.rows.Applied.{applied}
 use Rattle.sheets.specs.code.rows.KindCodes.{kindAt, Missed}
 use Rattle.sheets.specs.code.run.Floats.{valuesAt}
 use Rattle.sheets.specs.code.run.Evaluating.{LaidAs, RowLaid}
+use Rattle.sheets.proofs.rows.KindRowLaws.{MissedEach}
 use Rattle.sheets.proofs.rows.WordLaws.{spelt}
 use Rattle.sheets.proofs.run.LaidSteps.{allGive, row-laid}
 
 -- ---- a number that is one of several
 
-pub at-one : {A Q : Type 0} (num : A → ℕ) (P : A → Type 0) (us : List A) → All P us → {x : ℕ} → OneOf (map num us) x → ((u : A) → P u → x ≡ num u → Q) → Q
+-- what holds of each of us holds at the one whose number it is
+at-one : {A Q : Type 0} (num : A → ℕ) (P : A → Type 0) (us : List A) → All P us → {x : ℕ} → OneOf (map num us) x → ((u : A) → P u → x ≡ num u → Q) → Q
 at-one num P [] r o k = absurd o
 at-one num P (u ∷ []) r e k = k u (r .0) e
 at-one num P (u ∷ v ∷ us) r (inl e) k = k u (r .0) e
@@ -82,6 +84,8 @@ none-above k n {x} l o = omega (arith, l, in-range k n x o .1)
 pub of-position : {e : Ellipsoid} {code k : ℕ} {f : List Float} {at end : ℕ} {q : Evaluated} {f′ : List Float} → 3 ≤ k → k ≤ 4 → RowLaid e code (geocentric ∷ []) f at end q f′ → RowLaid e code (geodetic ∷ []) f at end q f′ → RowLaid e code (kindAt k ∷ []) f at end q f′
 of-position {e} {code} {k} {f} {at} {end} {q} {f′} l u g d = ⊎-elim (λ c. rw c g) (λ c. rw c d) (one-from 3 2 k l (omega arith))
 
+-- ---- which of several
+
 not-in : (ks : List ℕ) (x : ℕ) → (OneOf ks x → ⊥) → hasKey ks x ≡ false
 not-in ks x m = go (hasKey ks x) refl
   where
@@ -104,6 +108,7 @@ not-eq k x m = go (eqb k x) refl
 pub third : {A : Type 0} (a b : ℕ) (x y z : A) (n : ℕ) → (n ≡ a → ⊥) → (n ≡ b → ⊥) → z ≡ when (eqb a n) x (when (eqb b n) y z)
 third a b x y z n p q = rw (not-eq a n p, not-eq b n q) refl
 
+-- which of two, by a bound
 pub below-is : {A : Type 0} (k n : ℕ) (x y : A) → k < n → when (ltb k n) x y ≡ x
 below-is k n x y l = go (ltb k n) refl
   where
@@ -119,10 +124,6 @@ beyond-is k n x y l = go (ltb k n) refl
     go false h = refl
 
 -- ---- none of the numbers of some arms, the last arm first
-
-abbrev MissedEach : List (List ℕ) → ℕ → Type 0
-MissedEach [] x = Unit {0}
-MissedEach (ks ∷ kss) x = MissedEach kss x × (OneOf ks x → ⊥)
 
 abbrev pub flat : List (List ℕ) → List ℕ
 flat [] = []
