@@ -157,13 +157,13 @@ module _ (s : List ℕ) (name : NameAt) (v : Value) (f : List Float) (j : ℕ) (
     unfolding foundAt Shown
     show-unknown h = rw (eq-eqb j 0 z, ← ei, le-leb 16 i h) (record { is = (refl, refl, refl) })
 
-    pub show-reading : i < 16 → (r : Evaluated) (js′ d : List ℕ) → ShownAs s name (some (Number (floatAt f i))) 0 js out written r js′ d → ShownAs s name (foundAt v f (name .code) j) j js out written r js′ d
+    pub show-reading : i < 16 → (u : Value) → u ≡ Number (floatAt f i) → (r : Evaluated) (js′ d : List ℕ) → ShownAs s name (some u) j js out written r js′ d → ShownAs s name (foundAt v f (name .code) j) j js out written r js′ d
     unfolding foundAt
-    show-reading h r js′ d g = rw (eq-eqb j 0 z, ← ei, lt-leb 16 i h, z) g
+    show-reading h u eu r js′ d g = rw (eq-eqb j 0 z, ← ei, lt-leb 16 i h, ← eu) g
 
-  pub show-name : (j ≡ 0 → ⊥) → (r : Evaluated) (js′ d : List ℕ) → ShownAs s name (some v) j js out written r js′ d → ShownAs s name (foundAt v f (name .code) j) j js out written r js′ d
+  pub show-name : (j ≡ 0 → ⊥) → (u : Value) → u ≡ v → (r : Evaluated) (js′ d : List ℕ) → ShownAs s name (some u) j js out written r js′ d → ShownAs s name (foundAt v f (name .code) j) j js out written r js′ d
   unfolding foundAt
-  show-name z r js′ d h = rw (ne-eqb j 0 z) h
+  show-name z u eu r js′ d h = rw (ne-eqb j 0 z, ← eu) h
 
 -- what a show of a known word comes to
 module _ (s : List ℕ) (name : NameAt) (j : ℕ) (js out : List ℕ) (written : ℕ) (r : Evaluated) (js′ d : List ℕ) where

@@ -120,14 +120,14 @@ fn show(
     requires { ⌜ (getD (now shown) 0 0 ≤ 94) × (j ≤ 95) ⌝ }
     ensures { λ r. ⌜ ShownAs (now (s .entry)) name (foundAt (x .value) (now (floats .entry)) (name .code) j) j (now (shown .entry)) (now (out .entry)) written r (now (shown .exit)) (now (out .exit)) ⌝ }
 {
+    let mut v = x.value;
     if j == 0 {
         let i = reading_index(name.code);
         if 16 <= i {
             return Evaluated::Sticks;
         }
-        return show_value(s, name, Value::Number(floats[i]), 0, shown, out, written);
+        v = Value::Number(floats[i]);
     }
-    let v = x.value;
     show_value(s, name, v, j, shown, out, written)
 }
 

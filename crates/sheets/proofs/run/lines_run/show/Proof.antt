@@ -1,4 +1,5 @@
 -- `sheets::run::lines_run::show` meets its contract. Assumes nothing.
+use mathlib.Core.Logic.{inl, inr}
 use Rattle.sheets.proofs.run.RunParts.{show-unknown, show-reading, show-name}
 use borrow.Author.Needs.{needs}
 use Rattle.sheets.proofs.run.lines_run.show.Statement.{statement}
@@ -23,16 +24,10 @@ same-length : tie.Need-same-length
 same-length c = search needs
 
 returns-2 : tie.Need-returns-2
-returns-2 c = show-reading _ _ _ _ _ _ _ _ (c .before .before .before .before .before .before .before .before .if1 .taken) _ (c .before .before .before .before .before .before .before .reading-index .ensures) (c .before .before .before .before .before .before .if2 .left) _ _ _ (c .before .before .show-value .ensures)
-
-show-value-requires-2 : tie.Need-show-value-requires-2
-show-value-requires-2 c κs = search needs
-
-same-length-2 : tie.Need-same-length-2
-same-length-2 c = search needs
-
-returns-3 : tie.Need-returns-3
-returns-3 c = show-name _ _ _ _ _ _ _ _ (c .before .before .before .before .before .if1 .left) _ _ _ (c .before .before .show-value2 .ensures)
+returns-2 c = elim (c .before .before .before .before .before .if1 .came) [
+  | inl w ↦ show-reading _ _ _ _ _ _ _ _ (w .0 .taken) _ (w .1 .ensures) (w .2 .left) _ (w .4) _ _ _ (c .before .before .show-value .ensures)
+  | inr w ↦ show-name _ _ _ _ _ _ _ _ (w .0 .left) _ (w .1) _ _ _ (c .before .before .show-value .ensures)
+]
 
 pub show-spec : {M : Type 1} → statement M
 show-spec =
@@ -44,7 +39,4 @@ show-spec =
     element-copy-out-t16
     show-value-requires
     same-length
-    returns-2
-    show-value-requires-2
-    same-length-2
-    returns-3)
+    returns-2)
