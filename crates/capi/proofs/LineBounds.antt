@@ -5,7 +5,7 @@ use mathlib.Core.Bool.{Bool, true, false}
 use mathlib.Core.List.{List, [], _∷_}
 use lib.ListN.{length}
 use lib.Ieee.{Float}
-use Rattle.frames.specs.declared.frame.LocalFrame.{LocalFrame}
+use Rattle.frames.specs.declared.LocalFrame.{LocalFrame}
 use Rattle.sheets.specs.Trees.{Line, Sheet, numbered}
 use Rattle.sheets.specs.Grammar.{Form, formed, badLine, Reads}
 use Rattle.sheets.specs.Refusals.{Checked, fine, bad}

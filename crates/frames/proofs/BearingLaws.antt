@@ -12,16 +12,16 @@ use Rattle.numbers.specs.Ops.{decimal, num, pick}
 use Rattle.numbers.specs.Floats.{pi}
 use Rattle.numbers.specs.Arctangent.{atan2}
 use Rattle.numbers.specs.Angles.{angle, fullCircle, normalised}
-use Rattle.numbers.specs.declared.angle.Angle.{Angle}
+use Rattle.numbers.specs.declared.Angle.{Angle}
 use Rattle.numbers.proofs.FitLaws.{Fits, pick-fits, atan2-fits}
 use Rattle.numbers.proofs.ArcBounds.{atan2-finite}
 use Rattle.numbers.proofs.NormalisedLaws.{Below, normalised-below, normalised-never}
 use Rattle.frames.specs.Orientations.{isZUp}
 use Rattle.frames.specs.Vectors.{bearing, elevation}
 use Rattle.frames.specs.Frames.{newNed, newBody, localVectorTo, lookingAt}
-use Rattle.frames.specs.declared.positions.GeocentricPosition.{GeocentricPosition}
-use Rattle.frames.specs.declared.positions.GeodeticPosition.{GeodeticPosition}
-use Rattle.frames.specs.declared.vector.LocalVector.{LocalVector}
+use Rattle.frames.specs.declared.GeocentricPosition.{GeocentricPosition}
+use Rattle.frames.specs.declared.GeodeticPosition.{GeodeticPosition}
+use Rattle.frames.specs.declared.LocalVector.{LocalVector}
 
 -- below 2 PI, and not below 0
 abbrev pub InTurn : Angle → Type 0

@@ -7,19 +7,19 @@ use Rattle.numbers.specs.Ops.{_⊕_, decimal, num}
 use Rattle.numbers.specs.Angles.{angle, fromDegrees, negQuarterCircle}
 use Rattle.numbers.specs.Lengths.{metres}
 use Rattle.numbers.specs.Vec.{raw, unitZ, negUnitZ}
-use Rattle.numbers.specs.declared.vec3.Vec3.{Vec3}
+use Rattle.numbers.specs.declared.Vec3.{Vec3}
 use Rattle.frames.specs.Positions.{geocentricFromMetres, nvector, geodetic, latlongToNvector}
 use Rattle.frames.specs.Ellipsoids.{wgs84, ellipsoid, geodeticToGeocentric, geocentricToGeodetic, pOf, qOf}
 use Rattle.frames.specs.Vectors.{localFromMetres, fromAer, elevation, bearing, swap}
 use Rattle.frames.specs.Rotations.{r2zyx}
 use Rattle.frames.specs.Frames.{eastAt, frameOrigin, localVectorTo, destinationPosition, enuFromGeodetic, wanderAzimuthFromGeodetic, lookingAtGeocentric, rotateAroundZ, transform}
 use Rattle.frames.proofs.Computed.{computed}
-use Rattle.frames.specs.declared.positions.GeocentricPosition.{GeocentricPosition}
-use Rattle.frames.specs.declared.positions.GeodeticPosition.{GeodeticPosition}
-use Rattle.frames.specs.declared.ellipsoid.Ellipsoid.{Ellipsoid}
-use Rattle.frames.specs.declared.orientation.Orientation.the-variants.{Enu, Ned, Body}
-use Rattle.frames.specs.declared.vector.LocalVector.{LocalVector}
-use Rattle.frames.specs.declared.frame.LocalFrame.{LocalFrame}
+use Rattle.frames.specs.declared.GeocentricPosition.{GeocentricPosition}
+use Rattle.frames.specs.declared.GeodeticPosition.{GeodeticPosition}
+use Rattle.frames.specs.declared.Ellipsoid.{Ellipsoid}
+use Rattle.frames.specs.declared.Orientation.the-variants.{Enu, Ned, Body}
+use Rattle.frames.specs.declared.LocalVector.{LocalVector}
+use Rattle.frames.specs.declared.LocalFrame.{LocalFrame}
 
 abbrev bits : Float → ℕ
 bits x = toBits binary64 x

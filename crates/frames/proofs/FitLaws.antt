@@ -10,15 +10,15 @@ use Rattle.numbers.specs.Lengths.{lengthDiv}
 use Rattle.numbers.specs.Angles.{angle, angleNeg, fullCircle, raised, wrapped, normalisedTo, normalised}
 use Rattle.numbers.specs.Vec.{squaredNorm}
 use Rattle.numbers.specs.Mat.{transpose}
-use Rattle.numbers.specs.declared.angle.Angle.{Angle}
-use Rattle.numbers.specs.declared.mat33.Mat33.{Mat33}
+use Rattle.numbers.specs.declared.Angle.{Angle}
+use Rattle.numbers.specs.declared.Mat33.{Mat33}
 use Rattle.numbers.proofs.FitLaws.{Fits, decimal-fits, pick-fits, sqrt-fits, atan2-fits, asin-fits}
 use Rattle.frames.specs.Orientations.{isZUp}
 use Rattle.frames.specs.Vectors.{localAsMetres, slantRange, elevation, bearing}
 use Rattle.frames.specs.Rotations.{r2xyz, r2zyx}
-use Rattle.frames.specs.declared.vector.LocalVector.{LocalVector}
-use Rattle.frames.specs.declared.rotation.Xyz.{Xyz}
-use Rattle.frames.specs.declared.rotation.Zyx.{Zyx}
+use Rattle.frames.specs.declared.LocalVector.{LocalVector}
+use Rattle.frames.specs.declared.Xyz.{Xyz}
+use Rattle.frames.specs.declared.Zyx.{Zyx}
 
 -- an angle is a double
 abbrev pub FitAngle : Angle → Type 0

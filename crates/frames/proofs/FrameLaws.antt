@@ -5,9 +5,9 @@ use lib.Ieee as Ieee
 use Rattle.numbers.specs.Ops.{decimal, num}
 use Rattle.numbers.specs.Vec.{raw, zeroVec, unitX, unitY, negUnitZ, vecAdd, vecMul}
 use Rattle.numbers.specs.Mat.{mat, exchanged, vecMulMat, matMul}
-use Rattle.numbers.specs.declared.angle.Angle.{Angle}
-use Rattle.numbers.specs.declared.vec3.Vec3.{Vec3}
-use Rattle.numbers.specs.declared.mat33.Mat33.{Mat33}
+use Rattle.numbers.specs.declared.Angle.{Angle}
+use Rattle.numbers.specs.declared.Vec3.{Vec3}
+use Rattle.numbers.specs.declared.Mat33.{Mat33}
 use Rattle.numbers.proofs.VecLaws.{SettledVec, SettledMat, cross-settled, orthogonalTo-settled, scale-settled, add-settled, matMul-settled, picked, transpose-exchanged, exchanged-settled, NoMinusZeros, settled-mat, FiniteVec, FiniteMat, vecMulMat-zero, settled-sum, settled-difference}
 use Rattle.frames.specs.Positions.{geocentricFromMetres, geocentricFromVec3, geocentricAsMetres}
 use Rattle.frames.specs.Ellipsoids.{geodeticToGeocentric, geocentricToGeodetic}
@@ -15,13 +15,13 @@ use Rattle.frames.specs.Orientations.{isZUp, alignToZDown}
 use Rattle.frames.specs.Rotations.{zyx2r}
 use Rattle.frames.specs.Vectors.{localFromVec3, localAsMetres, localZero, bearing, elevation}
 use Rattle.frames.specs.Frames.{byInverse, byDirection, rotate, enuInverse, nedInverse, eastAt, newEnu, newNed, newBody, newWanderAzimuth, frameOrigin, localVectorTo, destinationPosition, enuFromGeocentric, enuFromGeodetic, nedFromGeocentric, nedFromGeodetic, bodyFromGeocentric, bodyFromGeodetic, wanderAzimuthFromGeocentric, wanderAzimuthFromGeodetic, lookingAt, lookingAtGeocentric, lookingAtGeodetic, rotateAroundZ, transform}
-use Rattle.frames.specs.declared.positions.GeocentricPosition.{GeocentricPosition}
-use Rattle.frames.specs.declared.positions.GeodeticPosition.{GeodeticPosition}
-use Rattle.frames.specs.declared.ellipsoid.Ellipsoid.{Ellipsoid}
-use Rattle.frames.specs.declared.orientation.Orientation.{Orientation}
-use Rattle.frames.specs.declared.orientation.Orientation.the-variants.{Enu, Ned, Body, Wan}
-use Rattle.frames.specs.declared.vector.LocalVector.{LocalVector}
-use Rattle.frames.specs.declared.frame.LocalFrame.{LocalFrame}
+use Rattle.frames.specs.declared.GeocentricPosition.{GeocentricPosition}
+use Rattle.frames.specs.declared.GeodeticPosition.{GeodeticPosition}
+use Rattle.frames.specs.declared.Ellipsoid.{Ellipsoid}
+use Rattle.frames.specs.declared.Orientation.{Orientation}
+use Rattle.frames.specs.declared.Orientation.the-variants.{Enu, Ned, Body, Wan}
+use Rattle.frames.specs.declared.LocalVector.{LocalVector}
+use Rattle.frames.specs.declared.LocalFrame.{LocalFrame}
 use Rattle.frames.proofs.PositionLaws.{FitPosition, SettledPosition, geocentricAsMetres-settled, geodeticToGeocentric-fits, geocentricFromVec3-fits, geocentricToGeodetic-settled}
 
 pub record Sound (f : LocalFrame) : Type 0 where

@@ -5,16 +5,16 @@ use Rattle.numbers.specs.Ops.{_⊗_}
 use Rattle.numbers.specs.Sine.{sin, cos}
 use Rattle.numbers.specs.Angles.{angleEq, quarterCircle, negQuarterCircle}
 use Rattle.numbers.specs.Vec.{unitZ, negUnitZ}
-use Rattle.numbers.specs.declared.angle.Angle.{Angle}
-use Rattle.numbers.specs.declared.length.Length.{Length}
-use Rattle.numbers.specs.declared.vec3.Vec3.{Vec3}
+use Rattle.numbers.specs.declared.Angle.{Angle}
+use Rattle.numbers.specs.declared.Length.{Length}
+use Rattle.numbers.specs.declared.Vec3.{Vec3}
 use Rattle.numbers.proofs.FitLaws.{Fits, sin-fits}
 use Rattle.numbers.proofs.VecLaws.{SettledVec, vec-settled, unitZ-settled, negUnitZ-settled, picked, settled-fits}
 use Rattle.frames.specs.Positions.{geocentric, geocentricFromVec3, geocentricAsMetres, geodetic, nvector, latlongToNvector}
 use Rattle.frames.specs.Ellipsoids.{geodeticToGeocentric, geodeticBy, geocentricToGeodetic}
-use Rattle.frames.specs.declared.positions.GeocentricPosition.{GeocentricPosition}
-use Rattle.frames.specs.declared.positions.GeodeticPosition.{GeodeticPosition}
-use Rattle.frames.specs.declared.ellipsoid.Ellipsoid.{Ellipsoid}
+use Rattle.frames.specs.declared.GeocentricPosition.{GeocentricPosition}
+use Rattle.frames.specs.declared.GeodeticPosition.{GeodeticPosition}
+use Rattle.frames.specs.declared.Ellipsoid.{Ellipsoid}
 
 -- ---- geocentric: the coordinates are doubles
 

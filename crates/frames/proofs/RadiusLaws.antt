@@ -5,11 +5,11 @@ use lib.Ieee.{binary64, toBits, neg}
 use Rattle.numbers.specs.Ops.{num}
 use Rattle.numbers.specs.Angles.{angle, quarterCircle, negQuarterCircle, fromDegrees}
 use Rattle.numbers.specs.Lengths.{metres}
-use Rattle.numbers.specs.declared.length.Length.{Length}
+use Rattle.numbers.specs.declared.Length.{Length}
 use Rattle.frames.specs.Ellipsoids.{wgs84}
 use Rattle.frames.specs.Radii.{geocentricRadius, latitudeRadius, primeVerticalRadius}
 use Rattle.frames.proofs.Computed.{computed}
-use Rattle.frames.specs.declared.ellipsoid.Ellipsoid.{Ellipsoid}
+use Rattle.frames.specs.declared.Ellipsoid.{Ellipsoid}
 
 -- ---- on every ellipsoid, whatever its four numbers are: the parallel at a pole is a point
 

@@ -5,12 +5,12 @@ use Rattle.numbers.specs.Root.{sqrt}
 use Rattle.numbers.specs.Powers.{powfThird}
 use Rattle.numbers.specs.Lengths.{metres}
 use Rattle.numbers.specs.Vec.{vec}
-use Rattle.numbers.specs.declared.length.Length.{Length}
-use Rattle.numbers.specs.declared.vec3.Vec3.{Vec3}
+use Rattle.numbers.specs.declared.Length.{Length}
+use Rattle.numbers.specs.declared.Vec3.{Vec3}
 use Rattle.frames.specs.Positions.{geocentricFromMetres, geocentricAsMetres, nvector, geodetic}
-use Rattle.frames.specs.declared.positions.GeocentricPosition.{GeocentricPosition}
-use Rattle.frames.specs.declared.positions.GeodeticPosition.{GeodeticPosition}
-use Rattle.frames.specs.declared.ellipsoid.Ellipsoid.{Ellipsoid}
+use Rattle.frames.specs.declared.GeocentricPosition.{GeocentricPosition}
+use Rattle.frames.specs.declared.GeodeticPosition.{GeodeticPosition}
+use Rattle.frames.specs.declared.Ellipsoid.{Ellipsoid}
 
 -- World Geodetic System 1984, the four constants of `Ellipsoid::WGS84`.
 -- NIMA TR8350.2 gives the semi-major axis, 6378137 m, and 1/f = 298.257223563; the other three follow from them.

@@ -4,21 +4,21 @@ use Rattle.numbers.specs.Ops.{num, pick}
 use Rattle.numbers.specs.Angles.{angle, angleNeg}
 use Rattle.numbers.specs.Vec.{unitX, unitY, unitZ, negUnitZ, crossProd, orthogonalTo, vecAdd, vecSub, vecMul}
 use Rattle.numbers.specs.Mat.{mat, transpose, vecMulMat, matMul}
-use Rattle.numbers.specs.declared.angle.Angle.{Angle}
-use Rattle.numbers.specs.declared.vec3.Vec3.{Vec3}
-use Rattle.numbers.specs.declared.mat33.Mat33.{Mat33}
+use Rattle.numbers.specs.declared.Angle.{Angle}
+use Rattle.numbers.specs.declared.Vec3.{Vec3}
+use Rattle.numbers.specs.declared.Mat33.{Mat33}
 use Rattle.frames.specs.Positions.{geocentricFromVec3, geocentricAsMetres, nvectorToLatlong}
 use Rattle.frames.specs.Ellipsoids.{geodeticToGeocentric, geocentricToGeodetic}
 use Rattle.frames.specs.Orientations.{isZUp, alignToZDown}
 use Rattle.frames.specs.Vectors.{localFromVec3, localAsMetres, bearing, elevation}
 use Rattle.frames.specs.Rotations.{zyx2r, xyz2r}
-use Rattle.frames.specs.declared.positions.GeocentricPosition.{GeocentricPosition}
-use Rattle.frames.specs.declared.positions.GeodeticPosition.{GeodeticPosition}
-use Rattle.frames.specs.declared.ellipsoid.Ellipsoid.{Ellipsoid}
-use Rattle.frames.specs.declared.orientation.Orientation.{Orientation}
-use Rattle.frames.specs.declared.orientation.Orientation.the-variants.{Enu, Ned, Body, Wan}
-use Rattle.frames.specs.declared.vector.LocalVector.{LocalVector}
-use Rattle.frames.specs.declared.frame.LocalFrame.{LocalFrame}
+use Rattle.frames.specs.declared.GeocentricPosition.{GeocentricPosition}
+use Rattle.frames.specs.declared.GeodeticPosition.{GeodeticPosition}
+use Rattle.frames.specs.declared.Ellipsoid.{Ellipsoid}
+use Rattle.frames.specs.declared.Orientation.{Orientation}
+use Rattle.frames.specs.declared.Orientation.the-variants.{Enu, Ned, Body, Wan}
+use Rattle.frames.specs.declared.LocalVector.{LocalVector}
+use Rattle.frames.specs.declared.LocalFrame.{LocalFrame}
 
 -- ---- making a frame
 

@@ -4,9 +4,9 @@ use lib.Ieee as Ieee
 use Rattle.numbers.specs.Ops.{num}
 use Rattle.numbers.specs.Vec.{vec}
 use Rattle.numbers.specs.Mat.{mat}
-use Rattle.numbers.specs.declared.mat33.Mat33.{Mat33}
-use Rattle.frames.specs.declared.orientation.Orientation.{Orientation}
-use Rattle.frames.specs.declared.orientation.Orientation.the-variants.{Enu, Ned, Body, Wan}
+use Rattle.numbers.specs.declared.Mat33.{Mat33}
+use Rattle.frames.specs.declared.Orientation.{Orientation}
+use Rattle.frames.specs.declared.Orientation.the-variants.{Enu, Ned, Body, Wan}
 
 -- `is_z_up`
 abbrev pub isZUp : Orientation → Bool

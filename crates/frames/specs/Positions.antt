@@ -7,13 +7,13 @@ use Rattle.numbers.specs.Arctangent.{atan2}
 use Rattle.numbers.specs.Angles.{angle, angleEq, quarterCircle, negQuarterCircle}
 use Rattle.numbers.specs.Lengths.{metres}
 use Rattle.numbers.specs.Vec.{vec, unitZ, negUnitZ}
-use Rattle.numbers.specs.declared.angle.Angle.{Angle}
-use Rattle.numbers.specs.declared.length.Length.{Length}
-use Rattle.numbers.specs.declared.vec3.Vec3.{Vec3}
-use Rattle.frames.specs.declared.positions.GeocentricPosition.{GeocentricPosition}
-use Rattle.frames.specs.declared.positions.GeodeticPosition.{GeodeticPosition}
-use Rattle.frames.specs.declared.positions.LatLong.{LatLong}
-use Rattle.frames.specs.declared.positions.NVector.{NVector}
+use Rattle.numbers.specs.declared.Angle.{Angle}
+use Rattle.numbers.specs.declared.Length.{Length}
+use Rattle.numbers.specs.declared.Vec3.{Vec3}
+use Rattle.frames.specs.declared.GeocentricPosition.{GeocentricPosition}
+use Rattle.frames.specs.declared.GeodeticPosition.{GeodeticPosition}
+use Rattle.frames.specs.declared.LatLong.{LatLong}
+use Rattle.frames.specs.declared.NVector.{NVector}
 
 -- ---- geocentric: Earth-centred, Earth-fixed
 

@@ -5,9 +5,9 @@ use Rattle.numbers.specs.Sine.{sin, cos}
 use Rattle.numbers.specs.Powers.{powfThreeHalves}
 use Rattle.numbers.specs.Angles.{angleEq, quarterCircle, negQuarterCircle}
 use Rattle.numbers.specs.Lengths.{metres, lengthAdd, lengthMul, lengthOver}
-use Rattle.numbers.specs.declared.angle.Angle.{Angle}
-use Rattle.numbers.specs.declared.length.Length.{Length}
-use Rattle.frames.specs.declared.ellipsoid.Ellipsoid.{Ellipsoid}
+use Rattle.numbers.specs.declared.Angle.{Angle}
+use Rattle.numbers.specs.declared.Length.{Length}
+use Rattle.frames.specs.declared.Ellipsoid.{Ellipsoid}
 
 -- from the centre to the surface
 unfoldable pub geocentricRadius : Ellipsoid → Angle → Length

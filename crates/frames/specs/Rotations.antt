@@ -7,10 +7,10 @@ use Rattle.numbers.specs.Arctangent.{atan2}
 use Rattle.numbers.specs.Angles.{angle, angleNeg}
 use Rattle.numbers.specs.Vec.{vec}
 use Rattle.numbers.specs.Mat.{mat, transpose}
-use Rattle.numbers.specs.declared.angle.Angle.{Angle}
-use Rattle.numbers.specs.declared.mat33.Mat33.{Mat33}
-use Rattle.frames.specs.declared.rotation.Xyz.{Xyz}
-use Rattle.frames.specs.declared.rotation.Zyx.{Zyx}
+use Rattle.numbers.specs.declared.Angle.{Angle}
+use Rattle.numbers.specs.declared.Mat33.{Mat33}
+use Rattle.frames.specs.declared.Xyz.{Xyz}
+use Rattle.frames.specs.declared.Zyx.{Zyx}
 
 -- the angles of a rotation matrix, about the x, the new y and the newest z axis
 unfoldable pub r2xyz : Mat33 → Xyz

@@ -8,13 +8,13 @@ use Rattle.numbers.specs.Floats.{clampUnit, nearZero}
 use Rattle.numbers.specs.Angles.{angle, angleNeg, normalised}
 use Rattle.numbers.specs.Lengths.{metres, lengthNeg, lengthMul, lengthDiv}
 use Rattle.numbers.specs.Vec.{vec, norm, vecAdd, vecSub, vecMul, vecDiv, vecNeg}
-use Rattle.numbers.specs.declared.angle.Angle.{Angle}
-use Rattle.numbers.specs.declared.length.Length.{Length}
-use Rattle.numbers.specs.declared.vec3.Vec3.{Vec3}
+use Rattle.numbers.specs.declared.Angle.{Angle}
+use Rattle.numbers.specs.declared.Length.{Length}
+use Rattle.numbers.specs.declared.Vec3.{Vec3}
 use Rattle.frames.specs.Orientations.{isZUp}
-use Rattle.frames.specs.declared.orientation.Orientation.{Orientation}
-use Rattle.frames.specs.declared.orientation.Orientation.the-variants.{Enu, Ned, Body, Wan}
-use Rattle.frames.specs.declared.vector.LocalVector.{LocalVector}
+use Rattle.frames.specs.declared.Orientation.{Orientation}
+use Rattle.frames.specs.declared.Orientation.the-variants.{Enu, Ned, Body, Wan}
+use Rattle.frames.specs.declared.LocalVector.{LocalVector}
 use Rattle.frames.specs.declared.vector.Nez.{Nez}
 
 -- `LocalVector::new`

@@ -1,27 +1,20 @@
-// A local Cartesian frame: its origin, and the matrices from its axes to the Earth's and back.
-// The orientation stands where the Rust has a type parameter. A vector is read in the frame's axes, whatever orientation it says.
-use crate::ellipsoid::Ellipsoid;
-use crate::orientation::Orientation;
-use crate::orientation::align_to_z_down_matrix;
-use crate::positions::GeocentricPosition;
-use crate::positions::GeodeticPosition;
-use crate::positions::LatLong;
+// Local Cartesian frames: made at a position, turned, and moved along. A vector is read in the frame's axes, whatever orientation it says.
+use crate::Ellipsoid;
+use crate::GeocentricPosition;
+use crate::GeodeticPosition;
+use crate::LatLong;
+use crate::LocalFrame;
+use crate::LocalVector;
+use crate::Orientation;
+use crate::orientations::align_to_z_down_matrix;
 use crate::rotation::xyz2r;
 use crate::rotation::zyx2r;
-use crate::vector::LocalVector;
-use numbers::angle::Angle;
-use numbers::mat33::Mat33;
-use numbers::vec3::Vec3;
+use numbers::Angle;
+use numbers::Mat33;
+use numbers::Vec3;
 ghost use mathlib.Core.Path.{_≡_};
 ghost use Rattle.frames.specs.Frames as Frames;
 ghost use Rattle.frames.specs.Frames.{newEnu, newNed, newBody, newWanderAzimuth, enuFromGeocentric, enuFromGeodetic, nedFromGeocentric, nedFromGeodetic, bodyFromGeocentric, bodyFromGeodetic, wanderAzimuthFromGeocentric, wanderAzimuthFromGeodetic, lookingAt, lookingAtGeocentric, lookingAtGeodetic, rotateAroundZ, frameOrigin, localVectorTo, destinationPosition};
-
-pub struct LocalFrame {
-    pub origin: Vec3,
-    pub dir_rm: Mat33,
-    pub inv_rm: Mat33,
-    pub orientation: Orientation,
-}
 
 // East-north-up.
 impl LocalFrame {

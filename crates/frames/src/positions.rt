@@ -1,21 +1,18 @@
 // Positions: geocentric, geodetic, and horizontal ones as an n-vector or as a latitude and a longitude.
-use numbers::angle::Angle;
+use crate::GeocentricPosition;
+use crate::GeodeticPosition;
+use crate::LatLong;
+use crate::NVector;
+use numbers::Angle;
+use numbers::Length;
+use numbers::Vec3;
 use numbers::arctangent::atan2;
-use numbers::length::Length;
 use numbers::root::sqrt;
 use numbers::sine::cos;
 use numbers::sine::sin;
-use numbers::vec3::Vec3;
 ghost use mathlib.Core.Path.{_≡_};
 ghost use Rattle.frames.specs.Positions as Positions;
 ghost use Rattle.frames.specs.Positions.{geocentric, geocentricFromMetres, geocentricFromVec3, geocentricAsMetres, geodetic, latLong, nvectorToLatlong, latlongToNvector};
-
-// Earth-centred, Earth-fixed.
-pub struct GeocentricPosition {
-    pub x: Length,
-    pub y: Length,
-    pub z: Length,
-}
 
 impl GeocentricPosition {
     pub fn new(x: Length, y: Length, z: Length) -> Self
@@ -65,12 +62,6 @@ impl GeocentricPosition {
     }
 }
 
-// The horizontal position, and the height above the surface.
-pub struct GeodeticPosition {
-    pub hp: NVector,
-    pub height: Length,
-}
-
 impl GeodeticPosition {
     pub fn new(hp: NVector, height: Length) -> Self
         ensures { λ r. ⌜ r ≡ geodetic hp height ⌝ }
@@ -89,11 +80,6 @@ impl GeodeticPosition {
     {
         self.height
     }
-}
-
-pub struct LatLong {
-    pub latitude: Angle,
-    pub longitude: Angle,
 }
 
 impl LatLong {
@@ -133,9 +119,6 @@ impl LatLong {
         self.longitude
     }
 }
-
-// The unit normal to the surface: z to the North Pole, x to latitude and longitude 0.
-pub struct NVector(pub Vec3);
 
 impl NVector {
     pub fn new(v: Vec3) -> Self

@@ -1,27 +1,15 @@
 // Rotation matrices from angles about new axes, and the angles of a rotation matrix: the functions at the end of frame.rs.
-use numbers::angle::Angle;
+use crate::Xyz;
+use crate::Zyx;
+use numbers::Angle;
+use numbers::Mat33;
+use numbers::Vec3;
 use numbers::arctangent::atan2;
-use numbers::mat33::Mat33;
 use numbers::root::sqrt;
 use numbers::sine::cos;
 use numbers::sine::sin;
-use numbers::vec3::Vec3;
 ghost use mathlib.Core.Path.{_≡_};
 ghost use Rattle.frames.specs.Rotations as Rotations;
-
-// Angles about the x, the new y and the newest z axis.
-pub struct Xyz {
-    pub x: Angle,
-    pub y: Angle,
-    pub z: Angle,
-}
-
-// Angles about the z, the new y and the newest x axis: yaw, pitch and roll from north-east-down to body.
-pub struct Zyx {
-    pub z: Angle,
-    pub y: Angle,
-    pub x: Angle,
-}
 
 pub fn r2xyz(m: Mat33) -> Xyz
     ensures { λ r. ⌜ r ≡ Rotations.r2xyz m ⌝ }

@@ -1,24 +1,18 @@
-// A vector in a local frame, with its orientation where the Rust has a type parameter. A sum and a difference have the first one's.
-use crate::orientation::Orientation;
-use numbers::angle::Angle;
+// Vectors in a local frame. A sum and a difference have the first one's orientation.
+use crate::LocalVector;
+use crate::Orientation;
+use numbers::Angle;
+use numbers::Length;
+use numbers::Vec3;
 use numbers::arctangent::asin;
 use numbers::arctangent::atan2;
 use numbers::float::clamp_unit;
-use numbers::length::Length;
 use numbers::numbers::eq_zero;
 use numbers::sine::cos;
 use numbers::sine::sin;
-use numbers::vec3::Vec3;
 ghost use mathlib.Core.Path.{_≡_};
 ghost use Rattle.frames.specs.Vectors as Vectors;
 ghost use Rattle.frames.specs.Vectors.{localVector, localFromMetres, localFromVec3, localAsMetres, localZero, localNeg, localAdd, localSub, localMul, localDiv, fromAer, aerToNez, slantRange};
-
-pub struct LocalVector {
-    pub x: Length,
-    pub y: Length,
-    pub z: Length,
-    pub orientation: Orientation,
-}
 
 // North, east and up.
 struct Nez {

@@ -12,7 +12,7 @@ use lib.Ieee.Positive.{first-pos}
 use Rattle.numbers.specs.Ops.{_⊕_, decimal, num, pick}
 use Rattle.numbers.specs.Floats.{remainder}
 use Rattle.numbers.specs.Angles.{angle, raised, wrapped, normalisedTo}
-use Rattle.numbers.specs.declared.angle.Angle.{Angle}
+use Rattle.numbers.specs.declared.Angle.{Angle}
 use Rattle.numbers.proofs.FitLaws.{Fits}
 use Rattle.numbers.proofs.FloatLaws.{rem-small, smaller}
 use Rattle.numbers.proofs.WholeLaw.{le-not-lt}

@@ -10,8 +10,8 @@ use Rattle.numbers.specs.Ops.{_⊕_, _⊖_, _⊗_, _⊘_, decimal, num, 
 use Rattle.numbers.specs.Root.{sqrt}
 use Rattle.numbers.specs.Vec.{raw, vec, dotProd, zeroVec, unitZ, negUnitZ, unitBy, newUnit, crossProd, crossProdUnit, stableCrossProdUnit, orthogonal, orthogonalTo, vecEq, vecAdd, vecMul}
 use Rattle.numbers.specs.Mat.{mat, exchanged, transpose, vecMulMat, matMul}
-use Rattle.numbers.specs.declared.vec3.Vec3.{Vec3}
-use Rattle.numbers.specs.declared.mat33.Mat33.{Mat33}
+use Rattle.numbers.specs.declared.Vec3.{Vec3}
+use Rattle.numbers.specs.declared.Mat33.{Mat33}
 use Rattle.numbers.proofs.FloatLaws.{zeroF, add-zeros, add-zero-right, new-twice, new-plain, sub-self-zero, zero-times, plain}
 
 pub zero-is : num 0 ≡ zeroF

@@ -5,7 +5,7 @@ use lib.Ieee as Ieee
 use lib.Ieee.{Float}
 use Rattle.numbers.specs.Ops.{_⊕_, _⊗_, _⊘_, num, pick}
 use Rattle.numbers.specs.Floats.{pi, epsilon, abs, toRadians, toDegrees, remainder}
-use Rattle.numbers.specs.declared.angle.Angle.{Angle}
+use Rattle.numbers.specs.declared.Angle.{Angle}
 
 abbrev pub angle : Float → Angle
 angle x = record { 0 = x }

@@ -2,7 +2,7 @@
 use lib.Ieee as Ieee
 use lib.Ieee.{Float}
 use Rattle.numbers.specs.Ops.{_⊕_, _⊗_, _⊘_, num, pick}
-use Rattle.numbers.specs.declared.length.Length.{Length}
+use Rattle.numbers.specs.declared.Length.{Length}
 
 abbrev pub metres : Float → Length
 metres x = record { 0 = x }

@@ -1,8 +1,8 @@
 -- Matrices of three rows: `Mat33` of mat33.rs, and a vector times one.
 use mathlib.Core.Bool.{Bool, _&&_}
 use Rattle.numbers.specs.Vec.{raw, vec, dotProd, vecEq, unitX, unitY, unitZ}
-use Rattle.numbers.specs.declared.vec3.Vec3.{Vec3}
-use Rattle.numbers.specs.declared.mat33.Mat33.{Mat33}
+use Rattle.numbers.specs.declared.Vec3.{Vec3}
+use Rattle.numbers.specs.declared.Mat33.{Mat33}
 
 -- `Mat33::new`, from the rows
 abbrev pub mat : Vec3 → Vec3 → Vec3 → Mat33

@@ -6,7 +6,7 @@ use lib.Ieee.{Float}
 use Rattle.numbers.specs.Ops.{_⊕_, _⊖_, _⊗_, _⊘_, num, pick}
 use Rattle.numbers.specs.Root.{sqrt}
 use Rattle.numbers.specs.Floats.{abs}
-use Rattle.numbers.specs.declared.vec3.Vec3.{Vec3}
+use Rattle.numbers.specs.declared.Vec3.{Vec3}
 
 -- the three components as they are
 abbrev pub raw : Float → Float → Float → Vec3

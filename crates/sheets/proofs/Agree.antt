@@ -5,10 +5,10 @@ use mathlib.Core.Option.{Option, none, some}
 use mathlib.Core.Bool.{Bool, true, false}
 use Prim.Native.Nat.{ℕ}
 use lib.Ieee.{Float}
-use Rattle.frames.specs.declared.ellipsoid.Ellipsoid.{Ellipsoid}
-use Rattle.frames.specs.declared.frame.LocalFrame.{LocalFrame}
-use Rattle.sheets.specs.declared.rows.value.Value.{Value}
-use Rattle.sheets.specs.declared.rows.value.Value.the-variants.{Number}
+use Rattle.frames.specs.declared.Ellipsoid.{Ellipsoid}
+use Rattle.frames.specs.declared.LocalFrame.{LocalFrame}
+use Rattle.sheets.specs.declared.Value.{Value}
+use Rattle.sheets.specs.declared.Value.the-variants.{Number}
 use Rattle.sheets.specs.Text.{Word}
 use Rattle.sheets.specs.Trees.{Expr, Exprs, word-expr, num-expr, form-expr, nil, _▸_, Line, let-line, show-line}
 use Rattle.sheets.specs.Kinds.{Kind, number, kindOf, kindCode}

@@ -9,7 +9,7 @@ use lib.ListN.{length, take, getD}
 use lib.Seq.{length-take-le}
 use lib.Ieee.{Float, nan}
 use borrow.Author.Tests.{eq-eqb, ne-eqb}
-use Rattle.frames.specs.declared.ellipsoid.Ellipsoid.{Ellipsoid}
+use Rattle.frames.specs.declared.Ellipsoid.{Ellipsoid}
 use Rattle.sheets.specs.declared.check.admit.Admission.{Admission}
 use Rattle.sheets.specs.declared.check.admit.Outcome.{Outcome}
 use Rattle.sheets.specs.Trees.{Sheet}

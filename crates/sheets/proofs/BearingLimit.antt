@@ -7,10 +7,10 @@ use lib.Ieee.Fits.{and-l, and-r}
 use lib.Ieee.Scale.{finite}
 use Rattle.numbers.specs.Ops.{decimal}
 use Rattle.frames.specs.Vectors.{bearing}
-use Rattle.frames.specs.declared.vector.LocalVector.{LocalVector}
+use Rattle.frames.specs.declared.LocalVector.{LocalVector}
 use Rattle.frames.proofs.BearingLaws.{InTurn, bearing-below}
 use Rattle.sheets.specs.Limits.{near, inLimit}
-use Rattle.sheets.specs.declared.rows.value.Value.the-variants.{Vector}
+use Rattle.sheets.specs.declared.Value.the-variants.{Vector}
 
 near-finite : (x : Float) → T (near x) → T (finite x)
 unfolding le neg decimal

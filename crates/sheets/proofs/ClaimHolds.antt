@@ -8,13 +8,13 @@ use lib.Dec.{eqb}
 use borrow.Author.Tests.{eq-eqb}
 use lib.ListN.{length, getD, drop, List·getD-append}
 use lib.Ieee.{Float}
-use Rattle.numbers.specs.declared.vec3.Vec3.{Vec3}
-use Rattle.numbers.specs.declared.mat33.Mat33.{Mat33}
+use Rattle.numbers.specs.declared.Vec3.{Vec3}
+use Rattle.numbers.specs.declared.Mat33.{Mat33}
 use Rattle.numbers.proofs.FitLaws.{Fits}
 use Rattle.numbers.proofs.VecLaws.{FiniteVec, FiniteMat}
-use Rattle.frames.specs.declared.frame.LocalFrame.{LocalFrame}
+use Rattle.frames.specs.declared.LocalFrame.{LocalFrame}
 use Rattle.frames.proofs.FrameLaws.{Sound, Home, home}
-use Rattle.sheets.specs.declared.rows.value.Value.{Value}
+use Rattle.sheets.specs.declared.Value.{Value}
 use Rattle.sheets.specs.Trees.{Sheet}
 use Rattle.sheets.specs.Grammar.{Written, FirstBad, Form, formed, badLine, Reads}
 use Rattle.sheets.specs.Names.{Given}

@@ -6,8 +6,8 @@ use Rattle.numbers.proofs.FitLaws.{Fits, decimal-fits}
 use Rattle.frames.proofs.PositionLaws.{FitPosition, SettledPosition, geocentric-fits, geodeticToGeocentric-fits, latlong-settled, geocentricToGeodetic-settled}
 use Rattle.frames.proofs.FitLaws.{slantRange-fits}
 use Rattle.frames.proofs.FrameLaws.{Sound, enuFromGeocentric-sound, enuFromGeodetic-sound, nedFromGeocentric-sound, nedFromGeodetic-sound, wanderAzimuthFromGeocentric-sound, wanderAzimuthFromGeodetic-sound, bodyFromGeocentric-sound, bodyFromGeodetic-sound, lookingAtGeocentric-sound, lookingAtGeodetic-sound, rotateAroundZ-sound, transform-sound, frameOrigin-fits, destinationPosition-fits}
-use Rattle.sheets.specs.declared.rows.value.Value.{Value}
-use Rattle.sheets.specs.declared.rows.value.Value.the-variants.{Number, Radians, Metres, Geocentric, Geodetic, Vector, Frame}
+use Rattle.sheets.specs.declared.Value.{Value}
+use Rattle.sheets.specs.declared.Value.the-variants.{Number, Radians, Metres, Geocentric, Geodetic, Vector, Frame}
 use Rattle.sheets.specs.Trees.{Num, Sheet}
 use Rattle.sheets.specs.Table.{table}
 use Rattle.sheets.specs.Limits.{numValue}

@@ -3,15 +3,15 @@ use mathlib.Core.Path.{_≡_, refl, subst}
 use mathlib.Core.List.{List, [], _∷_, map}
 use Prim.Native.Nat.{ℕ}
 use Prim.Native.String.{String}
-use Rattle.frames.specs.declared.frame.LocalFrame.{LocalFrame}
-use Rattle.sheets.specs.declared.rows.value.Value.{Value}
-use Rattle.sheets.specs.declared.rows.value.Value.the-variants.{Frame}
+use Rattle.frames.specs.declared.LocalFrame.{LocalFrame}
+use Rattle.sheets.specs.declared.Value.{Value}
+use Rattle.sheets.specs.declared.Value.the-variants.{Frame}
 use Rattle.sheets.specs.Text.{ascii}
 use Rattle.sheets.specs.Trees.{Sheet}
 use Rattle.sheets.specs.Grammar.{Written, Form, formed, badLine, Reads}
 use Rattle.sheets.specs.Names.{Given, givenOn}
 use Rattle.sheets.specs.Kinds.{Kind, kindOf, geodetic, vector, frame}
-use Rattle.frames.specs.declared.orientation.Orientation.the-variants.{Enu, Ned, Wan}
+use Rattle.frames.specs.declared.Orientation.the-variants.{Enu, Ned, Wan}
 use Rattle.sheets.specs.Output.{outputLine}
 use Rattle.sheets.specs.Refusals.{limit}
 use Rattle.sheets.specs.Machine.{Ran, done, stopped, stuck, machine}

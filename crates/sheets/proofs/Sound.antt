@@ -7,7 +7,7 @@ use native.Mathlib.Omega.{arith}
 use mathlib.Core.Bool.{Bool, true, false}
 use lib.ListN.{length, getD, length-append, List·getD-append}
 use lib.Ieee.{Float}
-use Rattle.frames.specs.declared.frame.LocalFrame.{LocalFrame}
+use Rattle.frames.specs.declared.LocalFrame.{LocalFrame}
 use Rattle.sheets.specs.Text.{Word}
 use Rattle.sheets.specs.Trees.{Line, let-line, show-line, Sheet, numbered}
 use Rattle.sheets.specs.Kinds.{Kind, kindCode}

@@ -1,7 +1,7 @@
 -- What the output lines show, in order: the text is their lines.
 use Prim.Native.Nat.{ℕ}
 use mathlib.Core.List.{List, [], _∷_}
-use Rattle.sheets.specs.declared.rows.value.Value.{Value}
+use Rattle.sheets.specs.declared.Value.{Value}
 use Rattle.sheets.specs.Text.{Word, _⌢_}
 use Rattle.sheets.specs.Output.{outputLine}
 

@@ -7,10 +7,10 @@ use lib.Ieee.{Float}
 use Rattle.numbers.specs.Ops.{num}
 use Rattle.numbers.specs.Lengths.{metres}
 use Rattle.frames.specs.Ellipsoids.{wgs84 as surfaceWgs84, ellipsoid as surfaceOf}
-use Rattle.frames.specs.declared.ellipsoid.Ellipsoid.{Ellipsoid}
-use Rattle.frames.specs.declared.frame.LocalFrame.{LocalFrame}
-use Rattle.sheets.specs.declared.rows.value.Value.{Value}
-use Rattle.sheets.specs.declared.rows.value.Value.the-variants.{Number, Radians, Metres, Geocentric, Geodetic, Vector, Frame}
+use Rattle.frames.specs.declared.Ellipsoid.{Ellipsoid}
+use Rattle.frames.specs.declared.LocalFrame.{LocalFrame}
+use Rattle.sheets.specs.declared.Value.{Value}
+use Rattle.sheets.specs.declared.Value.the-variants.{Number, Radians, Metres, Geocentric, Geodetic, Vector, Frame}
 use Rattle.sheets.specs.Text.{Word}
 use Rattle.sheets.specs.Trees.{Expr, Exprs, word-expr, num-expr, form-expr, nil, _▸_, Line, let-line, show-line, Head, wgs84, custom, Sheet, Numbered, numbered}
 use Rattle.sheets.specs.Table.{on, table}

@@ -14,12 +14,12 @@ use Rattle.frames.specs.Ellipsoids.{geodeticToGeocentric, geocentricToGeodetic,
 use Rattle.frames.specs.Vectors.{localVector, fromAer, slantRange, elevation, bearing, localNeg, localAdd, localSub, localMul, swap}
 use Rattle.frames.specs.Rotations.{r2zyx}
 use Rattle.frames.specs.Frames.{enuFromGeocentric, enuFromGeodetic, nedFromGeocentric, nedFromGeodetic, wanderAzimuthFromGeocentric, wanderAzimuthFromGeodetic, bodyFromGeocentric, bodyFromGeodetic, lookingAtGeocentric, lookingAtGeodetic, rotateAroundZ, transform, localVectorTo, destinationPosition, frameOrigin}
-use Rattle.frames.specs.declared.ellipsoid.Ellipsoid.{Ellipsoid}
-use Rattle.frames.specs.declared.positions.GeocentricPosition.{GeocentricPosition}
-use Rattle.frames.specs.declared.orientation.Orientation.{Orientation}
-use Rattle.frames.specs.declared.orientation.Orientation.the-variants.{Enu, Ned, Body, Wan}
-use Rattle.sheets.specs.declared.rows.value.Value.{Value}
-use Rattle.sheets.specs.declared.rows.value.Value.the-variants.{Radians, Metres, Geocentric, Geodetic, Vector, Frame}
+use Rattle.frames.specs.declared.Ellipsoid.{Ellipsoid}
+use Rattle.frames.specs.declared.GeocentricPosition.{GeocentricPosition}
+use Rattle.frames.specs.declared.Orientation.{Orientation}
+use Rattle.frames.specs.declared.Orientation.the-variants.{Enu, Ned, Body, Wan}
+use Rattle.sheets.specs.declared.Value.{Value}
+use Rattle.sheets.specs.declared.Value.the-variants.{Radians, Metres, Geocentric, Geodetic, Vector, Frame}
 use Rattle.sheets.specs.Text.{Word, ascii}
 use Rattle.sheets.specs.Kinds.{Kind, angle, len, geocentric, geodetic, vector, frame}
 use Rattle.sheets.specs.Letters.{Letter, 𝐧, 𝐚, 𝐥, 𝐠, 𝐝, 𝐯, 𝐟, ⟦_⟧, Holds}

@@ -6,3 +6,36 @@ pub mod check_and_run;
 pub mod reader;
 mod rows;
 pub mod run;
+
+use frames::GeocentricPosition;
+use frames::GeodeticPosition;
+use frames::LocalFrame;
+use frames::LocalVector;
+use numbers::Angle;
+use numbers::Length;
+
+// A sheet value.
+pub(crate) enum Value {
+    Number(f64),
+    Radians(Angle),
+    Metres(Length),
+    Geocentric(GeocentricPosition),
+    Geodetic(GeodeticPosition),
+    Vector(LocalVector),
+    Frame(LocalFrame),
+}
+
+// What an operator makes of its arguments: a value, nothing as no row fits, or nothing as the position is too near the centre.
+pub(crate) enum Applied {
+    Value(Value),
+    NoRow,
+    Centre,
+}
+
+// The code of a value's kind and a number: of an expression the place after it, of a let the place of the next line, of a show the bytes then written.
+// Else the number of the refusal that stops the machine, 7 or 8; or that the machine sticks.
+pub(crate) enum Evaluated {
+    Is(u8, usize),
+    Stops(u8),
+    Sticks,
+}

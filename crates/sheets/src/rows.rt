@@ -1,4 +1,4 @@
-// The rows of the kind table, by values and by kinds, with the values themselves and their limits.
+// The rows of the kind table, by values and by kinds, and the limits of values.
 // Here stand the rows that make a plain value or a vector, and those that read a vector or a frame: each at values of the row's kinds.
 pub(crate) mod args;
 pub(crate) mod frame_rows;
@@ -6,8 +6,9 @@ pub(crate) mod kinds;
 pub(crate) mod limits;
 pub(crate) mod value;
 
+use crate::Applied;
+use crate::Value;
 use crate::rows::args::Aer;
-use crate::rows::args::Applied;
 use crate::rows::args::Axis;
 use crate::rows::args::Lengths;
 use crate::rows::args::aer_of;
@@ -19,16 +20,15 @@ use crate::rows::args::gives_length;
 use crate::rows::args::gives_vector;
 use crate::rows::args::lengths_of;
 use crate::rows::args::same_orientation;
-use crate::rows::value::Value;
-use frames::ellipsoid::Ellipsoid;
-use frames::orientation::Orientation;
-use frames::positions::GeocentricPosition;
-use frames::positions::GeodeticPosition;
-use frames::positions::NVector;
+use frames::Ellipsoid;
+use frames::GeocentricPosition;
+use frames::GeodeticPosition;
+use frames::LocalVector;
+use frames::NVector;
+use frames::Orientation;
 use frames::rotation::r2zyx;
-use frames::vector::LocalVector;
-use numbers::angle::Angle;
-use numbers::length::Length;
+use numbers::Angle;
+use numbers::Length;
 ghost use mathlib.Core.Path.{_≡_};
 ghost use mathlib.Core.List.{[], _∷_};
 ghost use Rattle.sheets.specs.Text.{ascii};

@@ -1,8 +1,8 @@
 // What the examples give.
-use frames::positions::GeodeticPosition;
-use frames::positions::NVector;
-use numbers::angle::Angle;
-use numbers::length::Length;
+use frames::GeodeticPosition;
+use frames::NVector;
+use numbers::Angle;
+use numbers::Length;
 
 // By degrees and metres.
 pub fn geodetic(latitude: f64, longitude: f64, height: f64) -> GeodeticPosition {

@@ -1,10 +1,10 @@
 // The examples in the documentation of jord-rs.
 use crate::report::figure;
-use frames::ellipsoid::Ellipsoid;
-use frames::orientation::Orientation;
-use frames::vector::LocalVector;
-use numbers::angle::Angle;
-use numbers::length::Length;
+use frames::Ellipsoid;
+use frames::LocalVector;
+use frames::Orientation;
+use numbers::Angle;
+use numbers::Length;
 
 // vector.rs, `LocalVector::from_aer`: a sensor's observation in a body frame, to the millimetre.
 pub fn from_aer() {

@@ -1,7 +1,7 @@
 // Table 3.3 of NIMA TR8350.2, derived constants of the WGS84 ellipsoid. At a pole both radii of curvature are the polar one.
 use crate::report::figure;
-use frames::ellipsoid::Ellipsoid;
-use numbers::angle::Angle;
+use frames::Ellipsoid;
+use numbers::Angle;
 
 pub fn radii() {
     let earth = Ellipsoid::wgs84();

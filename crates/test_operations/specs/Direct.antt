@@ -6,15 +6,15 @@ use lib.Ieee.{Float, nan}
 use Rattle.numbers.specs.Lengths.{metres}
 use Rattle.numbers.specs.Vec.{raw}
 use Rattle.numbers.specs.Mat.{mat}
-use Rattle.numbers.specs.declared.vec3.Vec3.{Vec3}
-use Rattle.numbers.specs.declared.mat33.Mat33.{Mat33}
+use Rattle.numbers.specs.declared.Vec3.{Vec3}
+use Rattle.numbers.specs.declared.Mat33.{Mat33}
 use Rattle.frames.specs.Positions.{nvector, geodetic}
-use Rattle.frames.specs.declared.ellipsoid.Ellipsoid.{Ellipsoid}
-use Rattle.frames.specs.declared.frame.LocalFrame.{LocalFrame}
-use Rattle.frames.specs.declared.orientation.Orientation.the-variants.{Enu}
-use Rattle.frames.specs.declared.positions.GeocentricPosition.{GeocentricPosition}
-use Rattle.frames.specs.declared.positions.GeodeticPosition.{GeodeticPosition}
-use Rattle.frames.specs.declared.vector.LocalVector.{LocalVector}
+use Rattle.frames.specs.declared.Ellipsoid.{Ellipsoid}
+use Rattle.frames.specs.declared.LocalFrame.{LocalFrame}
+use Rattle.frames.specs.declared.Orientation.the-variants.{Enu}
+use Rattle.frames.specs.declared.GeocentricPosition.{GeocentricPosition}
+use Rattle.frames.specs.declared.GeodeticPosition.{GeodeticPosition}
+use Rattle.frames.specs.declared.LocalVector.{LocalVector}
 
 -- ---- taken
 

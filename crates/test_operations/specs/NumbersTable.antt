@@ -14,8 +14,8 @@ use Rattle.numbers.specs.Angles.{angle, fullCircle, halfCircle, negHalfCircle, 
 use Rattle.numbers.specs.Lengths.{metres, lengthAbs, lengthNeg, lengthMul, lengthDiv, lengthOver, lengthAdd}
 use Rattle.numbers.specs.Vec.{vec, zeroVec, unitX, unitY, unitZ, negUnitX, negUnitY, negUnitZ, newUnit, crossProd, crossProdUnit, dotProd, orthogonalTo, orthogonal, norm, stableCrossProdUnit, stableCrossProd, squaredNorm, unit, vecAdd, vecSub, vecMul, vecDiv, vecNeg, vecEq}
 use Rattle.numbers.specs.Mat.{identity, transpose, matMul, matEq, vecMulMat}
-use Rattle.numbers.specs.declared.vec3.Vec3.{Vec3}
-use Rattle.numbers.specs.declared.mat33.Mat33.{Mat33}
+use Rattle.numbers.specs.declared.Vec3.{Vec3}
+use Rattle.numbers.specs.declared.Mat33.{Mat33}
 use Rattle.test_operations.specs.Rows.{Row, _⟼_}
 use Rattle.test_operations.specs.Words.{doubleAt, vectorAt, matrixAt, number, truth, vector, matrix}
 

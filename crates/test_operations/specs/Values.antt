@@ -8,20 +8,20 @@ use Rattle.numbers.specs.Ops.{pick}
 use Rattle.numbers.specs.Angles.{angle}
 use Rattle.numbers.specs.Lengths.{metres}
 use Rattle.numbers.specs.Vec.{raw}
-use Rattle.numbers.specs.declared.angle.Angle.{Angle}
-use Rattle.numbers.specs.declared.length.Length.{Length}
+use Rattle.numbers.specs.declared.Angle.{Angle}
+use Rattle.numbers.specs.declared.Length.{Length}
 use Rattle.frames.specs.Positions.{geocentric, nvector, geodetic}
 use Rattle.frames.specs.Vectors.{localVector}
-use Rattle.frames.specs.declared.ellipsoid.Ellipsoid.{Ellipsoid}
-use Rattle.frames.specs.declared.frame.LocalFrame.{LocalFrame}
-use Rattle.frames.specs.declared.orientation.Orientation.{Orientation}
-use Rattle.frames.specs.declared.orientation.Orientation.the-variants.{Enu, Ned, Body, Wan}
-use Rattle.frames.specs.declared.positions.GeocentricPosition.{GeocentricPosition}
-use Rattle.frames.specs.declared.positions.GeodeticPosition.{GeodeticPosition}
-use Rattle.frames.specs.declared.positions.LatLong.{LatLong}
-use Rattle.frames.specs.declared.rotation.Xyz.{Xyz}
-use Rattle.frames.specs.declared.rotation.Zyx.{Zyx}
-use Rattle.frames.specs.declared.vector.LocalVector.{LocalVector}
+use Rattle.frames.specs.declared.Ellipsoid.{Ellipsoid}
+use Rattle.frames.specs.declared.LocalFrame.{LocalFrame}
+use Rattle.frames.specs.declared.Orientation.{Orientation}
+use Rattle.frames.specs.declared.Orientation.the-variants.{Enu, Ned, Body, Wan}
+use Rattle.frames.specs.declared.GeocentricPosition.{GeocentricPosition}
+use Rattle.frames.specs.declared.GeodeticPosition.{GeodeticPosition}
+use Rattle.frames.specs.declared.LatLong.{LatLong}
+use Rattle.frames.specs.declared.Xyz.{Xyz}
+use Rattle.frames.specs.declared.Zyx.{Zyx}
+use Rattle.frames.specs.declared.LocalVector.{LocalVector}
 use Rattle.test_operations.specs.Words.{doubleAt, vectorAt, matrixAt, number, vector, matrix}
 
 -- ---- what is taken, from a place on

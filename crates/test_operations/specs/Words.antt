@@ -6,8 +6,8 @@ use lib.ListN.{getD, take, set, replicate}
 use lib.Ieee.{Float, binary64, ofBits, toBits}
 use Rattle.numbers.specs.Vec.{raw}
 use Rattle.numbers.specs.Mat.{mat}
-use Rattle.numbers.specs.declared.vec3.Vec3.{Vec3}
-use Rattle.numbers.specs.declared.mat33.Mat33.{Mat33}
+use Rattle.numbers.specs.declared.Vec3.{Vec3}
+use Rattle.numbers.specs.declared.Mat33.{Mat33}
 
 -- ---- what is taken: the double of the word at a place, the vector of three words from there on, the matrix of nine, by rows
 

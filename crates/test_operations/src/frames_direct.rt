@@ -1,14 +1,14 @@
 // Functions of `frames` for C that the bench calls, numbers in and numbers out.
-use frames::ellipsoid::Ellipsoid;
-use frames::frame::LocalFrame;
-use frames::orientation::Orientation;
-use frames::positions::GeocentricPosition;
-use frames::positions::GeodeticPosition;
-use frames::positions::NVector;
-use frames::vector::LocalVector;
-use numbers::length::Length;
-use numbers::mat33::Mat33;
-use numbers::vec3::Vec3;
+use frames::Ellipsoid;
+use frames::GeocentricPosition;
+use frames::GeodeticPosition;
+use frames::LocalFrame;
+use frames::LocalVector;
+use frames::NVector;
+use frames::Orientation;
+use numbers::Length;
+use numbers::Mat33;
+use numbers::Vec3;
 ghost use Prim.Native.Nat.{_≤_};
 ghost use mathlib.Core.Path.{_≡_};
 ghost use Rattle.frames.specs.Positions.{geocentricFromMetres};
@@ -17,7 +17,7 @@ ghost use Rattle.frames.specs.Vectors as Vectors;
 ghost use Rattle.frames.specs.Frames.{enuFromGeodetic, localVectorTo};
 ghost use Rattle.test_operations.specs.Direct as Direct;
 ghost use Rattle.test_operations.specs.Direct.{ellipsoidOf, geodeticOf};
-ghost use Rattle.frames.specs.declared.orientation.Orientation.the-variants.{Enu, Ned};
+ghost use Rattle.frames.specs.declared.Orientation.the-variants.{Enu, Ned};
 
 fn ellipsoid(a: f64, b: f64, e: f64, f: f64) -> Ellipsoid
     ensures { λ r. ⌜ r ≡ ellipsoidOf a b e f ⌝ }

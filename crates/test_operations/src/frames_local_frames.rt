@@ -8,7 +8,7 @@ use crate::frames_inputs::local_frame;
 use crate::frames_inputs::local_vector;
 use crate::frames_radii::radii;
 use crate::words::matrix;
-use frames::frame::LocalFrame;
+use frames::LocalFrame;
 ghost use mathlib.Core.Path.{_≡_};
 ghost use Rattle.frames.specs.Frames as Frames;
 ghost use Rattle.test_operations.specs.Words.{padded};

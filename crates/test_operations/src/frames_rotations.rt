@@ -6,7 +6,7 @@ use crate::frames_local_frames::levels;
 use crate::words::matrix;
 use crate::words::matrix_at;
 use crate::words::truth;
-use frames::orientation::align_to_z_down_matrix;
+use frames::orientations::align_to_z_down_matrix;
 use frames::rotation;
 ghost use mathlib.Core.Path.{_≡_};
 ghost use Rattle.test_operations.specs.Words.{padded};

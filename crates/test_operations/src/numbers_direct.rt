@@ -53,7 +53,5 @@ pub extern "C" fn numbers_rem(x: f64, y: f64) -> f64
 pub extern "C" fn numbers_normalised_to(x: f64, max: f64) -> f64
     ensures { λ r. ⌜ angle r ≡ normalisedTo (angle x) (angle max) ⌝ }
 {
-    numbers::angle::Angle(x)
-        .normalised_to(numbers::angle::Angle(max))
-        .0
+    numbers::Angle(x).normalised_to(numbers::Angle(max)).0
 }

@@ -3,7 +3,7 @@ use crate::words::double_at;
 use crate::words::number;
 use crate::words::vector;
 use crate::words::vector_at;
-use numbers::length::Length;
+use numbers::Length;
 ghost use mathlib.Core.Path.{_≡_};
 ghost use Rattle.test_operations.specs.Words.{padded};
 ghost use Rattle.test_operations.specs.Rows.{answered};

@@ -4,7 +4,7 @@ use crate::words::number;
 use crate::words::truth;
 use crate::words::vector;
 use crate::words::vector_at;
-use numbers::vec3::Vec3;
+use numbers::Vec3;
 ghost use mathlib.Core.Path.{_≡_};
 ghost use Rattle.test_operations.specs.Words.{padded};
 ghost use Rattle.test_operations.specs.Rows.{answered};

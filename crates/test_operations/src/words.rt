@@ -1,8 +1,8 @@
 // Words taken and answered. A double goes by its bits; every NaN is 7ff8000000000000.
+use numbers::Mat33;
+use numbers::Vec3;
 use numbers::float::bits;
 use numbers::float::double;
-use numbers::mat33::Mat33;
-use numbers::vec3::Vec3;
 ghost use Prim.Native.Nat.{_≤_};
 ghost use mathlib.Core.Path.{_≡_};
 ghost use mathlib.Core.List.{[], _∷_};

@@ -6,7 +6,7 @@ use mathlib.Core.Bool.{Bool, true, false}
 use mathlib.Core.List.{List, [], _∷_, _++_}
 use lib.ListN.{length, take, set, replicate}
 use lib.Seq.{take-suc-set, length-take-le}
-use Rattle.frames.specs.declared.ellipsoid.Ellipsoid.{Ellipsoid}
+use Rattle.frames.specs.declared.Ellipsoid.{Ellipsoid}
 use Rattle.sheets.specs.Text.{Word}
 use Rattle.sheets.specs.Trees.{Line, let-line, show-line, Head, Sheet, numbered}
 use Rattle.sheets.specs.Grammar.{IsLine, after}

@@ -6,9 +6,9 @@ use mathlib.Core.List.{List}
 use lib.Ieee.{Float}
 use Rattle.numbers.specs.Ops.{num}
 use Rattle.numbers.specs.Lengths.{metres}
-use Rattle.numbers.specs.declared.length.Length.{Length}
+use Rattle.numbers.specs.declared.Length.{Length}
 use Rattle.frames.specs.Ellipsoids.{ellipsoid, wgs84 as surfaceWgs84}
-use Rattle.frames.specs.declared.ellipsoid.Ellipsoid.{Ellipsoid}
+use Rattle.frames.specs.declared.Ellipsoid.{Ellipsoid}
 use Rattle.sheets.specs.code.reader.Reader.{readHead}
 use Rattle.sheets.specs.Limits.{between}
 use Rattle.sheets.specs.Machine.{surface}

@@ -6,11 +6,11 @@ use mathlib.Core.Option.{Option, none, some}
 use lib.Dec.{T}
 use Rattle.frames.specs.Vectors.{fromAer, swapFrom, swap}
 use Rattle.frames.specs.Frames.{newEnu, newNed, newBody, newWanderAzimuth, enuFromGeocentric, enuFromGeodetic, nedFromGeocentric, nedFromGeodetic, wanderAzimuthFromGeocentric, wanderAzimuthFromGeodetic, bodyFromGeocentric, bodyFromGeodetic, lookingAt, lookingAtGeocentric, lookingAtGeodetic, rotateAroundZ, transform, localVectorTo}
-use Rattle.frames.specs.declared.ellipsoid.Ellipsoid.{Ellipsoid}
-use Rattle.frames.specs.declared.orientation.Orientation.{Orientation}
-use Rattle.frames.specs.declared.orientation.Orientation.the-variants.{Enu, Ned, Body, Wan}
-use Rattle.frames.specs.declared.vector.LocalVector.{LocalVector}
-use Rattle.sheets.specs.declared.rows.value.Value.{Value}
+use Rattle.frames.specs.declared.Ellipsoid.{Ellipsoid}
+use Rattle.frames.specs.declared.Orientation.{Orientation}
+use Rattle.frames.specs.declared.Orientation.the-variants.{Enu, Ned, Body, Wan}
+use Rattle.frames.specs.declared.LocalVector.{LocalVector}
+use Rattle.sheets.specs.declared.Value.{Value}
 use Rattle.sheets.specs.Text.{Word}
 use Rattle.sheets.specs.Kinds.{kindOf, vector}
 use Rattle.sheets.specs.Letters.{Holds, hold, orientations}

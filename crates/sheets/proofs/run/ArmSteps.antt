@@ -11,10 +11,10 @@ use mir.Facts.{and-yes}
 use mir.Val.{hasKey}
 use types.Run.{OneOf, hit}
 use borrow.Author.Tests.{eqb-true, ltb-true, ltb-false}
-use Rattle.frames.specs.declared.ellipsoid.Ellipsoid.{Ellipsoid}
-use Rattle.sheets.specs.declared.rows.value.Value.{Value}
-use Rattle.sheets.specs.declared.rows.args.Applied.{Applied}
-use Rattle.sheets.specs.declared.run.eval.Evaluated.{Evaluated}
+use Rattle.frames.specs.declared.Ellipsoid.{Ellipsoid}
+use Rattle.sheets.specs.declared.Value.{Value}
+use Rattle.sheets.specs.declared.Applied.{Applied}
+use Rattle.sheets.specs.declared.Evaluated.{Evaluated}
 use Rattle.sheets.specs.Text.{Word}
 use Rattle.sheets.specs.Kinds.{Kind, geocentric, geodetic}
 use Rattle.sheets.specs.Table.{when, table}

@@ -7,14 +7,14 @@ use mathlib.Core.List.{List, [], _∷_, _++_, map}
 use lib.ListN.{length, set, length-set}
 use lib.Seq.{getD-set-same, getD-set-other}
 use lib.Ieee.{Float, nan}
-use Rattle.numbers.specs.declared.angle.Angle.{Angle}
-use Rattle.numbers.specs.declared.length.Length.{Length}
-use Rattle.frames.specs.declared.frame.LocalFrame.{LocalFrame}
-use Rattle.frames.specs.declared.positions.GeocentricPosition.{GeocentricPosition}
-use Rattle.frames.specs.declared.positions.GeodeticPosition.{GeodeticPosition}
-use Rattle.frames.specs.declared.vector.LocalVector.{LocalVector}
-use Rattle.sheets.specs.declared.rows.value.Value.{Value}
-use Rattle.sheets.specs.declared.rows.value.Value.the-variants.{Number, Radians, Metres, Geocentric, Geodetic, Vector, Frame}
+use Rattle.numbers.specs.declared.Angle.{Angle}
+use Rattle.numbers.specs.declared.Length.{Length}
+use Rattle.frames.specs.declared.LocalFrame.{LocalFrame}
+use Rattle.frames.specs.declared.GeocentricPosition.{GeocentricPosition}
+use Rattle.frames.specs.declared.GeodeticPosition.{GeodeticPosition}
+use Rattle.frames.specs.declared.LocalVector.{LocalVector}
+use Rattle.sheets.specs.declared.Value.{Value}
+use Rattle.sheets.specs.declared.Value.the-variants.{Number, Radians, Metres, Geocentric, Geodetic, Vector, Frame}
 use Rattle.sheets.specs.Kinds.{Kind, number, angle, len, geocentric, geodetic, vector, frame, kindOf}
 use Rattle.sheets.specs.code.run.Floats.{floatAt, vecAt, matAt, valueAt, valuesAt, Lies, lay, frameFloats, KeptBelow}
 

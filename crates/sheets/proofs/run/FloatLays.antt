@@ -11,8 +11,8 @@ use lib.Seq.{getD-set-same, getD-set-other}
 use lib.Ieee.{Float, nan}
 use types.Run.{OneOf}
 use borrow.Author.Tests.{eqb-true, eqb-false}
-use Rattle.frames.specs.declared.orientation.Orientation.{Orientation}
-use Rattle.frames.specs.declared.orientation.Orientation.the-variants.{Enu, Ned, Body, Wan}
+use Rattle.frames.specs.declared.Orientation.{Orientation}
+use Rattle.frames.specs.declared.Orientation.the-variants.{Enu, Ned, Body, Wan}
 use Rattle.sheets.specs.Kinds.{Kind, vector, frame}
 use Rattle.sheets.specs.Limits.{allNear, inLimit}
 use Rattle.sheets.specs.code.rows.KindCodes.{kindAt}

@@ -13,16 +13,16 @@ use mir.Facts.{and-yes}
 use mir.Val.{hasKey}
 use types.Run.{OneOf}
 use denote.Enum.Declared.{tagOf}
-use Rattle.frames.specs.declared.ellipsoid.Ellipsoid.{Ellipsoid}
-use Rattle.frames.specs.declared.frame.LocalFrame.{LocalFrame}
-use Rattle.frames.specs.declared.positions.GeodeticPosition.{GeodeticPosition}
-use Rattle.frames.specs.declared.orientation.Orientation.{Orientation}
-use Rattle.frames.specs.declared.orientation.Orientation.the-variants.{Enu, Ned, Body, Wan}
-use Rattle.sheets.specs.declared.rows.value.Value.{Value}
-use Rattle.sheets.specs.declared.rows.value.Value.the-variants.{Geodetic}
-use Rattle.sheets.specs.declared.rows.args.Applied.{Applied}
-use Rattle.sheets.specs.declared.rows.args.Applied.the-variants.{Value as value, NoRow, Centre}
-use Rattle.sheets.specs.declared.run.eval.Evaluated.{Evaluated}
+use Rattle.frames.specs.declared.Ellipsoid.{Ellipsoid}
+use Rattle.frames.specs.declared.LocalFrame.{LocalFrame}
+use Rattle.frames.specs.declared.GeodeticPosition.{GeodeticPosition}
+use Rattle.frames.specs.declared.Orientation.{Orientation}
+use Rattle.frames.specs.declared.Orientation.the-variants.{Enu, Ned, Body, Wan}
+use Rattle.sheets.specs.declared.Value.{Value}
+use Rattle.sheets.specs.declared.Value.the-variants.{Geodetic}
+use Rattle.sheets.specs.declared.Applied.{Applied}
+use Rattle.sheets.specs.declared.Applied.the-variants.{Value as value, NoRow, Centre}
+use Rattle.sheets.specs.declared.Evaluated.{Evaluated}
 use Rattle.sheets.specs.Text.{Word}
 use Rattle.sheets.specs.Kinds.{Kind, kindOf, kindCode, letterOf, sameKinds}
 use Rattle.sheets.specs.Limits.{inLimit}
@@ -38,7 +38,7 @@ use Rattle.sheets.specs.code.rows.KindCodes.{Missed}
 use Rattle.sheets.specs.code.run.Floats.{valueAt, valuesAt, Lies, lay, KeptBelow}
 use Rattle.sheets.specs.code.run.Evaluating.{evaluated, LiesOf, Answers, testedAt, outOf, LaidAs, RowLaid}
 use Rattle.sheets.proofs.ByCases.{by-cases}
-use Rattle.sheets.proofs.rows.value.Value as valueType
+use Rattle.sheets.proofs.Value as valueType
 use Rattle.sheets.proofs.reader.CodeLaws.{code-same}
 use Rattle.sheets.proofs.check.KindExact.{same-word, same-kinds}
 use Rattle.sheets.proofs.rows.FindKind.{lead, given, mapped, find-kind}

@@ -8,7 +8,7 @@ use mathlib.Core.List.{List, [], _∷_, _++_, append-assoc}
 use borrow.Author.Tests.{le-leb, leb-true, not-true, not-false}
 use lib.Dec.{leb}
 use lib.ListN.{length, length-append}
-use Rattle.sheets.specs.declared.rows.value.Value.{Value}
+use Rattle.sheets.specs.declared.Value.{Value}
 use Rattle.sheets.specs.Text.{Word}
 use Rattle.sheets.specs.code.reader.Reader.{got, readWord}
 use Rattle.sheets.specs.Kinds.{kindOf, kindName}

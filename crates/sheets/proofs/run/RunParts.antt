@@ -13,13 +13,13 @@ use types.Run.{OneOf, miss}
 use denote.Enum.Declared.{tagOf}
 use borrow.Author.Tests.{eqb-true, eqb-false, leb-true, leb-false, eq-eqb, ne-eqb, le-leb, lt-leb}
 use Rattle.numbers.specs.Ops.{num}
-use Rattle.frames.specs.declared.ellipsoid.Ellipsoid.{Ellipsoid}
-use Rattle.sheets.specs.declared.rows.value.Value.{Value}
-use Rattle.sheets.specs.declared.rows.value.Value.the-variants.{Number}
+use Rattle.frames.specs.declared.Ellipsoid.{Ellipsoid}
+use Rattle.sheets.specs.declared.Value.{Value}
+use Rattle.sheets.specs.declared.Value.the-variants.{Number}
 use Rattle.sheets.specs.declared.reader.expr.Read.{Read}
 use Rattle.sheets.specs.declared.reader.lines.NameAt.{NameAt}
 use Rattle.sheets.specs.declared.answers.RunAnswer.{RunAnswer}
-use Rattle.sheets.specs.declared.run.eval.Evaluated.{Evaluated}
+use Rattle.sheets.specs.declared.Evaluated.{Evaluated}
 use Rattle.sheets.specs.Trees.{let-line}
 use Rattle.sheets.specs.Kinds.{kindOf, kindCode}
 use Rattle.sheets.specs.Limits.{inLimit}
@@ -35,7 +35,7 @@ use Rattle.sheets.specs.code.run.Running.{WithReadings, LetWith, ShownIf
 use Rattle.sheets.proofs.reader.Inverse.{then-read, closing-read}
 use Rattle.sheets.proofs.run.KnownLaws.{getD-inside}
 use Rattle.sheets.proofs.run.EntryLaws.{keep-size, keep-count}
-use Rattle.sheets.proofs.run.eval.Evaluated as evaluation
+use Rattle.sheets.proofs.Evaluated as evaluation
 
 -- ---- the readings among the floats
 

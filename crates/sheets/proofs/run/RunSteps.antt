@@ -9,12 +9,12 @@ use lib.ListN.{length, getD, set, replicate, length-append, length-replicate}
 use lib.Ieee.{Float, ofBits, binary64}
 use borrow.Author.Tests.{leb-true, leb-false}
 use Rattle.numbers.specs.Ops.{num, decimal}
-use Rattle.frames.specs.declared.ellipsoid.Ellipsoid.{Ellipsoid}
+use Rattle.frames.specs.declared.Ellipsoid.{Ellipsoid}
 use Rattle.sheets.specs.declared.rows.value.Slot.{Slot}
 use Rattle.sheets.specs.declared.reader.lines.NameAt.{NameAt}
 use Rattle.sheets.specs.declared.reader.lines.LineHead.{LineHead}
 use Rattle.sheets.specs.declared.answers.RunAnswer.{RunAnswer}
-use Rattle.sheets.specs.declared.run.eval.Evaluated.{Evaluated}
+use Rattle.sheets.specs.declared.Evaluated.{Evaluated}
 use Rattle.sheets.specs.Text.{Word}
 use Rattle.sheets.specs.Trees.{Expr, Line, let-line, show-line, numbered}
 use Rattle.sheets.specs.Grammar.{IsWord, after as afterPhase}

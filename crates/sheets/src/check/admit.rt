@@ -14,7 +14,7 @@ use crate::reader::lines::closing;
 use crate::reader::lines::is_short;
 use crate::reader::lines::line_head;
 use crate::rows::kinds::opens;
-use frames::ellipsoid::Ellipsoid;
+use frames::Ellipsoid;
 ghost use mathlib.Core.Path.{_≡_};
 ghost use Prim.Native.Nat.{ℕ, _≤_, _-_};
 ghost use Rattle.sheets.specs.code.reader.Reader.{got, let-word, rest, readLine, readLines, readSheet};

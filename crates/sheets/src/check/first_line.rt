@@ -1,8 +1,8 @@
 // Line 1 of a sheet by what it says: the ellipsoid, and refusal 4.
 use crate::reader::head::HeadRead;
 use crate::reader::head::head;
-use frames::ellipsoid::Ellipsoid;
-use numbers::length::Length;
+use frames::Ellipsoid;
+use numbers::Length;
 ghost use mathlib.Core.Path.{_≡_};
 ghost use mathlib.Core.Bool.{_&&_};
 ghost use Rattle.numbers.specs.Ops.{num};

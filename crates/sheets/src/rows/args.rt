@@ -1,12 +1,13 @@
 // What an operator answers, and views of its arguments.
-use crate::rows::value::Value;
-use frames::frame::LocalFrame;
-use frames::orientation::Orientation;
-use frames::positions::GeocentricPosition;
-use frames::positions::GeodeticPosition;
-use frames::vector::LocalVector;
-use numbers::angle::Angle;
-use numbers::length::Length;
+use crate::Applied;
+use crate::Value;
+use frames::GeocentricPosition;
+use frames::GeodeticPosition;
+use frames::LocalFrame;
+use frames::LocalVector;
+use frames::Orientation;
+use numbers::Angle;
+use numbers::Length;
 ghost use mathlib.Core.Path.{_≡_};
 ghost use Prim.Native.Nat.{_≤_};
 ghost use mathlib.Core.List.{[], _∷_};
@@ -14,15 +15,8 @@ ghost use Rattle.sheets.specs.Kinds.{place, sameOrientation};
 ghost use Rattle.sheets.specs.Letters.{hold, 𝐚, 𝐥};
 ghost use Rattle.sheets.specs.Table.{notBody, enuOrNed};
 ghost use Rattle.sheets.specs.code.rows.Applied.{lengths, aer};
-ghost use Rattle.sheets.specs.declared.rows.value.Value.{Value};
-ghost use Rattle.sheets.specs.declared.rows.args.Applied.{Applied};
-
-// What an operator makes of its arguments: a value, nothing as no row fits, or nothing as the position is too near the centre.
-pub enum Applied {
-    Value(Value),
-    NoRow,
-    Centre,
-}
+ghost use Rattle.sheets.specs.declared.Value.{Value};
+ghost use Rattle.sheets.specs.declared.Applied.{Applied};
 
 // Three lengths, where the arguments are three lengths.
 pub enum Lengths {

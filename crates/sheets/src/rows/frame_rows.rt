@@ -1,14 +1,14 @@
 // The rows that convert a position or make a frame, by functions of the frame crate: each at values of the row's kinds.
-use crate::rows::args::Applied;
+use crate::Applied;
+use crate::Value;
 use crate::rows::args::gives_frame;
 use crate::rows::args::gives_geocentric;
 use crate::rows::args::gives_geodetic;
 use crate::rows::args::not_body;
 use crate::rows::args::same_orientation;
 use crate::rows::limits::is_far;
-use crate::rows::value::Value;
-use frames::ellipsoid::Ellipsoid;
-use frames::frame::LocalFrame;
+use frames::Ellipsoid;
+use frames::LocalFrame;
 ghost use mathlib.Core.Path.{_≡_};
 ghost use mathlib.Core.List.{[], _∷_};
 ghost use Rattle.sheets.specs.Text.{ascii};

@@ -1,7 +1,7 @@
 // The limits of values, and how near to the centre a position may lie.
-use crate::rows::value::Value;
-use frames::ellipsoid::Ellipsoid;
-use frames::positions::GeocentricPosition;
+use crate::Value;
+use frames::Ellipsoid;
+use frames::GeocentricPosition;
 ghost use mathlib.Core.Path.{_≡_};
 ghost use lib.Ieee as Ieee;
 ghost use Rattle.sheets.specs.Limits.{between, near, allNear, inLimit};

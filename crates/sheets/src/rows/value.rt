@@ -1,25 +1,9 @@
-// What the words of a sheet stand for, and a slot of the table of names.
+// The code of a value's kind, and a slot of the table of names.
+use crate::Value;
 use crate::rows::args::place_of;
-use frames::frame::LocalFrame;
-use frames::positions::GeocentricPosition;
-use frames::positions::GeodeticPosition;
-use frames::vector::LocalVector;
-use numbers::angle::Angle;
-use numbers::length::Length;
 ghost use mathlib.Core.Path.{_≡_};
 ghost use Rattle.sheets.specs.Kinds.{kindOf, kindCode};
 ghost use Rattle.sheets.specs.code.run.Slots.{emptySlot};
-
-// A sheet value.
-pub enum Value {
-    Number(f64),
-    Radians(Angle),
-    Metres(Length),
-    Geocentric(GeocentricPosition),
-    Geodetic(GeodeticPosition),
-    Vector(LocalVector),
-    Frame(LocalFrame),
-}
 
 // A place in the table of names: a word's code, 0 where the place is empty, and the word's value.
 pub struct Slot {

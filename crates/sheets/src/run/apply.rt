@@ -1,5 +1,5 @@
 // An operator at its arguments, which lie as floats: by their kinds, then by its word.
-use crate::run::eval::Evaluated;
+use crate::Evaluated;
 use crate::run::oriented_rows::at_row;
 use crate::run::oriented_rows::frame_row;
 use crate::run::oriented_rows::move_row;
@@ -15,8 +15,8 @@ use crate::run::plain_rows::look_row;
 use crate::run::plain_rows::number_row;
 use crate::run::plain_rows::position_row;
 use crate::run::plain_rows::wan_row;
-use frames::ellipsoid::Ellipsoid;
-use frames::orientation::Orientation;
+use frames::Ellipsoid;
+use frames::Orientation;
 ghost use mathlib.Core.Path.{_≡_};
 ghost use Prim.Native.Nat.{_+_, _≤_};
 ghost use Rattle.sheets.specs.code.run.Evaluating.{ForKinds, ForKindsBeyond, plainKeys, orientationAt, orientationBy};

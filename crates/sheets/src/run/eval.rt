@@ -2,6 +2,7 @@
 // Values lie as floats: the readings from place 0 on, the value of the name at place j of `words` from 21 j on, and above the names, from `top` on, what is being worked out.
 // An expression's value is laid from its `top` on, and so are a bracket's arguments, each with room for a frame, 21 floats.
 // A bracket's fifth argument lies 84 places above its first, so that an expression of depth d takes 84 d + 21 floats, and one of depth 11 takes 945; 2940 is that above the places of 95 names. A bracket's five arguments take 105.
+use crate::Evaluated;
 use crate::check::newest::word_place;
 use crate::reader::bytes::WordRead;
 use crate::reader::bytes::byte;
@@ -12,17 +13,9 @@ use crate::run::apply::apply;
 use crate::run::floats::copy_floats;
 use crate::run::laid::tested;
 use crate::run::readings::reading_index;
-use frames::ellipsoid::Ellipsoid;
+use frames::Ellipsoid;
 ghost use Prim.Native.Nat.{_+_, _*_, _≤_};
 ghost use Rattle.sheets.specs.code.run.Evaluating.{KnownWith, LeafWith, EvalsWith, BracketWith};
-
-// The code of a value's kind and a number: of an expression the place after it, of a let the place of the next line, of a show the bytes then written.
-// Else the number of the refusal that stops the machine, 7 or 8; or that the machine sticks.
-pub enum Evaluated {
-    Is(u8, usize),
-    Stops(u8),
-    Sticks,
-}
 
 // What the word with this code stands for, laid at `top`; `end` is the place after the word.
 fn known(

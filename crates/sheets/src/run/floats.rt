@@ -1,19 +1,19 @@
 // Values as floats on a list, which is lent whole: a value is its kind and the place where its floats begin.
 // A frame takes 21 floats, a value of another kind the first few of 21.
+use crate::Value;
 use crate::rows::limits::are_near;
 use crate::rows::limits::is_near;
 use crate::rows::limits::is_within;
-use crate::rows::value::Value;
-use frames::frame::LocalFrame;
-use frames::orientation::Orientation;
-use frames::positions::GeocentricPosition;
-use frames::positions::GeodeticPosition;
-use frames::positions::NVector;
-use frames::vector::LocalVector;
-use numbers::angle::Angle;
-use numbers::length::Length;
-use numbers::mat33::Mat33;
-use numbers::vec3::Vec3;
+use frames::GeocentricPosition;
+use frames::GeodeticPosition;
+use frames::LocalFrame;
+use frames::LocalVector;
+use frames::NVector;
+use frames::Orientation;
+use numbers::Angle;
+use numbers::Length;
+use numbers::Mat33;
+use numbers::Vec3;
 ghost use mathlib.Core.Path.{_≡_};
 ghost use mathlib.Core.List.{[], _∷_};
 ghost use Prim.Native.Nat.{_+_, _≤_};

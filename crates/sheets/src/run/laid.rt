@@ -1,14 +1,14 @@
 // What is met or made, laid as floats from a place on: its kind's code and the place in the sheet after it, once the test of refusal 7 is passed.
-use crate::rows::args::Applied;
+use crate::Applied;
+use crate::Evaluated;
+use crate::Value;
 use crate::rows::args::place_of;
-use crate::rows::value::Value;
-use crate::run::eval::Evaluated;
 use crate::run::floats::in_limit_at;
 use crate::run::floats::lay_frame;
 use crate::run::floats::lay_three;
 ghost use mathlib.Core.Path.{_≡_};
 ghost use Prim.Native.Nat.{_+_, _≤_};
-ghost use Rattle.sheets.specs.declared.rows.args.Applied.{Applied};
+ghost use Rattle.sheets.specs.declared.Applied.{Applied};
 ghost use Rattle.sheets.specs.code.run.Evaluating.{testedAt, LaidAs};
 
 // The test of refusal 7, of the value of the kind with this code that lies at a place.

@@ -1,4 +1,6 @@
 // The lines of an admitted sheet, run one after another over the table of names.
+use crate::Evaluated;
+use crate::Value;
 use crate::answers::RunAnswer;
 use crate::answers::run_answer;
 use crate::check::newest::put_newest;
@@ -10,16 +12,14 @@ use crate::reader::lines::closing;
 use crate::reader::lines::line_head;
 use crate::rows::limits::in_limit;
 use crate::rows::value::Slot;
-use crate::rows::value::Value;
 use crate::rows::value::empty_slot;
 use crate::rows::value::kind_of;
-use crate::run::eval::Evaluated;
 use crate::run::eval::eval;
 use crate::run::floats::value_at;
 use crate::run::readings::put_readings;
 use crate::run::readings::reading_index;
 use crate::run::text::output_line;
-use frames::ellipsoid::Ellipsoid;
+use frames::Ellipsoid;
 ghost use mathlib.Core.Path.{_≡_};
 ghost use mathlib.Core.Option.{some};
 ghost use Prim.Native.Nat.{_+_, _≤_};

@@ -1,17 +1,17 @@
 // The rows over vectors and frames, as in plain_rows.rt; the arguments share their orientation.
+use crate::Evaluated;
 use crate::reader::words;
 use crate::rows;
 use crate::rows::args::Axis;
 use crate::rows::frame_rows;
-use crate::run::eval::Evaluated;
 use crate::run::floats::angle_at;
 use crate::run::floats::frame_at;
 use crate::run::floats::geocentric_at;
 use crate::run::floats::number_at;
 use crate::run::floats::vector_at;
 use crate::run::laid::laid;
-use frames::ellipsoid::Ellipsoid;
-use frames::orientation::Orientation;
+use frames::Ellipsoid;
+use frames::Orientation;
 ghost use mathlib.Core.Path.{_≡_};
 ghost use mathlib.Core.List.{[], _∷_};
 ghost use Prim.Native.Nat.{_+_, _≤_};

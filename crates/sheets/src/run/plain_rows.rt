@@ -1,17 +1,17 @@
 // The rows over kinds without an orientation, a function for each list of kinds: the arguments lie as floats, 21 places apart, and the value is laid where the first one lies.
 // So each row is called at values whose kinds are known.
 // The first argument of `laid` is the letter of the row's value, and no kind's code: 1 a, 2 l, 3 g, 4 d, 5 v, 6 f.
+use crate::Evaluated;
 use crate::reader::words;
 use crate::rows;
 use crate::rows::frame_rows;
-use crate::run::eval::Evaluated;
 use crate::run::floats::angle_at;
 use crate::run::floats::length_at;
 use crate::run::floats::number_at;
 use crate::run::floats::value_at;
 use crate::run::laid::laid;
-use frames::ellipsoid::Ellipsoid;
-use frames::orientation::Orientation;
+use frames::Ellipsoid;
+use frames::Orientation;
 ghost use mathlib.Core.Path.{_≡_};
 ghost use mathlib.Core.List.{[], _∷_};
 ghost use Prim.Native.Nat.{_+_, _≤_};

@@ -1,5 +1,5 @@
 // An output line in a lent buffer: name, kind, fields and LF.
-use crate::rows::value::Value;
+use crate::Value;
 use crate::rows::value::kind_of;
 use crate::run::fields::put_byte;
 use crate::run::fields::put_fields;

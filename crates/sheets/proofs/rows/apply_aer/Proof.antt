@@ -2,8 +2,8 @@
 use mathlib.Core.Path.{ap, _∙_}
 use Rattle.sheets.specs.code.rows.Applied.{aer}
 use Rattle.sheets.proofs.rows.FamilyLaws.{aer-row}
-use Rattle.sheets.specs.declared.rows.value.Value.{Value}
-use Rattle.sheets.specs.declared.rows.args.Applied.{Applied}
+use Rattle.sheets.specs.declared.Value.{Value}
+use Rattle.sheets.specs.declared.Applied.{Applied}
 use borrow.Author.Needs.{needs}
 use Rattle.sheets.proofs.rows.apply_aer.Statement.{statement}
 use Rattle.sheets.proofs.rows.apply_aer.Tie as tie

@@ -2,8 +2,8 @@
 use mathlib.Core.Path.{ap, _∙_}
 use Rattle.sheets.specs.code.rows.Applied.{lengths}
 use Rattle.sheets.proofs.rows.FamilyLaws.{vector-row}
-use Rattle.sheets.specs.declared.rows.value.Value.{Value}
-use Rattle.sheets.specs.declared.rows.args.Applied.{Applied}
+use Rattle.sheets.specs.declared.Value.{Value}
+use Rattle.sheets.specs.declared.Applied.{Applied}
 use borrow.Author.Needs.{needs}
 use Rattle.sheets.proofs.rows.apply_vector.Statement.{statement}
 use Rattle.sheets.proofs.rows.apply_vector.Tie as tie

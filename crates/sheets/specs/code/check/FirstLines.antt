@@ -2,7 +2,7 @@
 -- No part of what must be believed: they only tie the code to the definitions.
 use Prim.Native.Nat.{ℕ}
 use mathlib.Core.Bool.{Bool, true, false}
-use Rattle.frames.specs.declared.ellipsoid.Ellipsoid.{Ellipsoid}
+use Rattle.frames.specs.declared.Ellipsoid.{Ellipsoid}
 use Rattle.sheets.specs.Trees.{Head}
 use Rattle.sheets.specs.code.reader.Reader.{Got, none, got}
 use Rattle.sheets.specs.Machine.{surface}

@@ -7,7 +7,7 @@ use mathlib.Core.List.{List, _∷_, map}
 use lib.Dec.{eqb, leb}
 use mir.Val.{hasKey}
 use lib.ListN.{length, getD, take}
-use Rattle.frames.specs.declared.ellipsoid.Ellipsoid.{Ellipsoid}
+use Rattle.frames.specs.declared.Ellipsoid.{Ellipsoid}
 use Rattle.sheets.specs.Text.{Word}
 use Rattle.sheets.specs.Trees.{Expr, Exprs, Line, let-line, show-line, numbered}
 use Rattle.sheets.specs.Grammar.{IsWord}

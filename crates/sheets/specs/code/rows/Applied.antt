@@ -2,12 +2,12 @@
 use mathlib.Core.List.{[], _∷_}
 use mathlib.Core.Option.{Option, none, some}
 use mathlib.Core.Bool.{Bool, true, false}
-use Rattle.frames.specs.declared.ellipsoid.Ellipsoid.{Ellipsoid}
-use Rattle.frames.specs.declared.orientation.Orientation.{Orientation}
-use Rattle.frames.specs.declared.orientation.Orientation.the-variants.{Enu, Ned, Body, Wan}
-use Rattle.sheets.specs.declared.rows.value.Value.{Value}
-use Rattle.sheets.specs.declared.rows.args.Applied.{Applied}
-use Rattle.sheets.specs.declared.rows.args.Applied.the-variants.{Value as value, NoRow, Centre}
+use Rattle.frames.specs.declared.Ellipsoid.{Ellipsoid}
+use Rattle.frames.specs.declared.Orientation.{Orientation}
+use Rattle.frames.specs.declared.Orientation.the-variants.{Enu, Ned, Body, Wan}
+use Rattle.sheets.specs.declared.Value.{Value}
+use Rattle.sheets.specs.declared.Applied.{Applied}
+use Rattle.sheets.specs.declared.Applied.the-variants.{Value as value, NoRow, Centre}
 use Rattle.sheets.specs.declared.rows.args.Lengths.{Lengths}
 use Rattle.sheets.specs.declared.rows.args.Aer.{Aer}
 use Rattle.sheets.specs.declared.rows.args.Axis.{Axis}

@@ -8,7 +8,7 @@ use lib.Dec.{eqb}
 use lib.ListN.{getD}
 use mir.Val.{hasKey}
 use Rattle.sheets.specs.code.reader.Codes.{codeOf}
-use Rattle.frames.specs.declared.orientation.Orientation.the-variants.{Enu, Ned, Body, Wan}
+use Rattle.frames.specs.declared.Orientation.the-variants.{Enu, Ned, Body, Wan}
 use Rattle.sheets.specs.Kinds.{Kind, number, angle, len, geocentric, geodetic, vector, frame, kindCode}
 use Rattle.sheets.specs.Table.{Row, when, table}
 use Rattle.sheets.specs.Lookup.{oriented, KindRow, kindRows}

@@ -5,7 +5,7 @@ use mathlib.Core.Path.{_≡_}
 use mathlib.Core.List.{List, [], _∷_}
 use lib.ListN.{length, getD, set}
 use lib.Ieee.{Float}
-use Rattle.sheets.specs.declared.rows.value.Value.{Value}
+use Rattle.sheets.specs.declared.Value.{Value}
 use Rattle.sheets.specs.Kinds.{number, kindOf, kindCode}
 use Rattle.sheets.specs.Entries.{Entry, shown}
 use Rattle.sheets.specs.code.run.Floats.{Lies}

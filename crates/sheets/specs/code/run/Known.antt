@@ -8,8 +8,8 @@ use lib.Dec.{eqb, leb}
 use lib.ListN.{length, getD}
 use lib.Ieee.{Float}
 use Rattle.numbers.specs.Ops.{num}
-use Rattle.sheets.specs.declared.rows.value.Value.{Value}
-use Rattle.sheets.specs.declared.rows.value.Value.the-variants.{Number}
+use Rattle.sheets.specs.declared.Value.{Value}
+use Rattle.sheets.specs.declared.Value.the-variants.{Number}
 use Rattle.sheets.specs.declared.rows.value.Slot.{Slot}
 use Rattle.sheets.specs.Text.{Word}
 use Rattle.sheets.specs.Grammar.{IsWord}

@@ -8,12 +8,12 @@ use mathlib.Core.Option.{Option, none, some}
 use lib.ListN.{length, getD, set, replicate}
 use lib.Ieee.{Float}
 use Rattle.numbers.specs.Ops.{num}
-use Rattle.frames.specs.declared.ellipsoid.Ellipsoid.{Ellipsoid}
-use Rattle.sheets.specs.declared.rows.value.Value.{Value}
+use Rattle.frames.specs.declared.Ellipsoid.{Ellipsoid}
+use Rattle.sheets.specs.declared.Value.{Value}
 use Rattle.sheets.specs.declared.rows.value.Slot.{Slot}
 use Rattle.sheets.specs.declared.reader.lines.NameAt.{NameAt}
 use Rattle.sheets.specs.declared.answers.RunAnswer.{RunAnswer}
-use Rattle.sheets.specs.declared.run.eval.Evaluated.{Evaluated}
+use Rattle.sheets.specs.declared.Evaluated.{Evaluated}
 use Rattle.sheets.specs.Text.{Word}
 use Rattle.sheets.specs.Trees.{Expr, Line, let-line, numbered}
 use Rattle.sheets.specs.Kinds.{kindOf, kindCode}

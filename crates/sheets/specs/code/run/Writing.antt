@@ -6,7 +6,7 @@ use mathlib.Core.List.{List, [], _∷_, _++_}
 use lib.Dec.{eqb, leb, ltb}
 use lib.ListN.{length, set, take, drop, replicate}
 use lib.Ieee.{Float, binary64, ofBits}
-use Rattle.sheets.specs.declared.rows.value.Value.{Value}
+use Rattle.sheets.specs.declared.Value.{Value}
 use Rattle.sheets.specs.Text.{ascii, _⌢_}
 use Rattle.sheets.specs.Kinds.{kindOf, kindName}
 use Rattle.sheets.specs.Table.{when}

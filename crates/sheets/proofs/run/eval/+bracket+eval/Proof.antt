@@ -9,7 +9,7 @@ use borrow.Fn.Kinds.{In}
 use borrow.Fn.PlainCycle.{Measures, is, falls, and}
 use Rattle.sheets.specs.code.reader.Views.{ByteAt}
 use Rattle.sheets.specs.code.run.Evaluating.{BracketWith}
-use Rattle.sheets.specs.declared.run.eval.Evaluated.{Evaluated}
+use Rattle.sheets.specs.declared.Evaluated.{Evaluated}
 use Rattle.sheets.proofs.reader.ExprSteps.{expr-deep, expr-no-word}
 use Rattle.sheets.proofs.check.KindSteps.{key-grows}
 use Rattle.sheets.proofs.run.EvalSteps.{evals-bad, evals-leaf}

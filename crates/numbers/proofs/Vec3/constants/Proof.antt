@@ -1,0 +1,13 @@
+-- `numbers::Vec3::constants` meets its contract, by computation. Assumes nothing.
+use mathlib.Core.Path.{refl}
+use lib.Ieee as Ieee
+use Rattle.numbers.specs.Ops.{decimal}
+use Rattle.numbers.proofs.Vec3.constants.Statement.{statement}
+use Rattle.numbers.proofs.Vec3.constants.Tie as tie
+
+returns : tie.Need-returns
+unfolding Ieee.ofBits Ieee.neg decimal
+returns c = refl
+
+pub constants-spec : {M : Type 1} → statement M
+constants-spec = tie.close (tie.spec returns)
