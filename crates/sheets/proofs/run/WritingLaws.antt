@@ -19,7 +19,7 @@ unfolding writes
 writes-append [] b d at = rw add-zero refl
 writes-append (x ∷ a) b d at = writes-append a b (set d at x) (at + 1) ∙ ap (λ (n : ℕ). writes (writes (set d at x) (at + 1) a) n b) (omega arith)
 
-length-writes : (a d : List ℕ) (at : ℕ) → length (writes d at a) ≡ length d
+pub length-writes : (a d : List ℕ) (at : ℕ) → length (writes d at a) ≡ length d
 unfolding writes
 length-writes [] d at = refl
 length-writes (x ∷ a) d at = length-writes a (set d at x) (at + 1) ∙ length-set d at x
