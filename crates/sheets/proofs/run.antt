@@ -1,6 +1,7 @@
 -- Laws of the run's code.
 pub mod TextBound
 pub mod WritingLaws
+pub mod SpreadLaws
 pub mod DigitLaws
 pub mod ValueText
 pub mod LineText

@@ -3,7 +3,8 @@ use native.Mathlib.Omega.{arith}
 use borrow.Author.Needs.{needs}
 use Prim.Native.Nat.{_+_, _*_, _/_}
 use lib.Bits.{bitAnd, bitOr, and-le-r}
-use Rattle.sheets.proofs.run.DigitLaws.{turn, spreadA, spreadB, halfC, halfC-most, eight}
+use Rattle.sheets.proofs.run.SpreadLaws.{turn, spreadA, spreadB, halfC, halfC-most}
+use Rattle.sheets.proofs.run.DigitLaws.{eight}
 use Rattle.sheets.proofs.run.fields.digits_of.Statement.{statement}
 use Rattle.sheets.proofs.run.fields.digits_of.Tie as tie
 
