@@ -22,11 +22,11 @@ use Rattle.sheets.proofs.run.FloatLaws.{kept-refl, kept-trans, kept-set
 -- ---- kinds by a number
 
 -- none of the numbers below k
-abbrev Beyond : ℕ → ℕ → Type 0
+abbrev pub Beyond : ℕ → ℕ → Type 0
 Beyond zero n = Unit {0}
 Beyond (suc k) n = Beyond k n × (n ≡ k → ⊥)
 
-beyond-le : (k n : ℕ) → Beyond k n → k ≤ n
+pub beyond-le : (k n : ℕ) → Beyond k n → k ≤ n
 beyond-le zero n b = omega arith
 beyond-le (suc k) n b =
     let l : k ≤ n = beyond-le k n (b .0) in

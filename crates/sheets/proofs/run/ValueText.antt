@@ -1,8 +1,8 @@
 -- The text of a value from its kind's code and the list of its fields. Assumes nothing.
-use Prim.Native.Nat.{ℕ, _+_, _-_, _*_, _<_, _≤_}
+use Prim.Native.Nat.{ℕ, zero, suc, _+_, _-_, _*_, _<_, _≤_}
 use native.Mathlib.Numerals.{add-one}
 use native.Mathlib.Omega.{arith}
-use mathlib.Core.Path.{_≡_, refl, ap, _∙_}
+use mathlib.Core.Path.{_≡_, refl, sym, ap, _∙_}
 use mathlib.Core.List.{List, [], _∷_}
 use lib.ListN.{length, length-append, getD, take, replicate}
 use lib.Seq.{take-suc, take-append-seam}
@@ -13,8 +13,9 @@ use Rattle.sheets.specs.declared.Value.{Value}
 use Rattle.sheets.specs.declared.Value.the-variants.{Number, Radians, Metres, Geocentric, Geodetic, Vector, Frame}
 use Rattle.sheets.specs.Kinds.{kindOf, kindCode, kindName, place, vector, frame}
 use Rattle.sheets.specs.Output.{fields, fieldsText}
-use Rattle.sheets.specs.code.run.Writing.{writes, Written, zero64, padded, fieldCount, kindText, valueText}
+use Rattle.sheets.specs.code.run.Writing.{writes, Written, zero64, padded, fieldCount, plainLetter, orientationText, kindText, valueText}
 use Rattle.sheets.proofs.run.TextBound.{fields-length, few, name-length}
+use Rattle.sheets.proofs.run.FloatLays.{Beyond, beyond-le}
 use Rattle.sheets.proofs.run.WritingLaws.{written-then, fields-then}
 
 -- ---- a kind by its code: its name, and how many fields
@@ -32,6 +33,52 @@ frame-told Enu = (refl, refl)
 frame-told Ned = (refl, refl)
 frame-told Body = (refl, refl)
 frame-told Wan = (refl, refl)
+
+-- a name is its letter, and of a vector or a frame the orientation's name
+pub plain-name : (k : ℕ) → k < 5 → kindText k ≡ plainLetter k ∷ []
+unfolding kindText plainLetter
+plain-name zero h = refl
+plain-name (suc zero) h = refl
+plain-name (suc (suc zero)) h = refl
+plain-name (suc (suc (suc zero))) h = refl
+plain-name (suc (suc (suc (suc zero)))) h = refl
+plain-name (suc (suc (suc (suc (suc k))))) h = absurd (omega arith)
+
+pub plain-last : (k : ℕ) → Beyond 4 k → 100 ≡ plainLetter k
+unfolding plainLetter
+plain-last k b =
+    let l : 4 ≤ k = beyond-le 4 k b in
+    let e : k ≡ suc (suc (suc (suc (k - 4)))) = omega arith in
+    sym (ap plainLetter e)
+
+pub last-orientation : (p : ℕ) → Beyond 3 p → orientationText p ≡ orientationText 3
+unfolding orientationText
+last-orientation p b =
+    let l : 3 ≤ p = beyond-le 3 p b in
+    let e : p ≡ suc (suc (suc (p - 3))) = omega arith in
+    ap orientationText e
+
+at-vector : (m : ℕ) → m < 4 → kindText (suc (suc (suc (suc (suc m))))) ≡ 118 ∷ orientationText m
+unfolding kindText orientationText
+at-vector zero h = refl
+at-vector (suc zero) h = refl
+at-vector (suc (suc zero)) h = refl
+at-vector (suc (suc (suc zero))) h = refl
+at-vector (suc (suc (suc (suc m)))) h = absurd (omega arith)
+
+at-frame : (m : ℕ) → kindText (suc (suc (suc (suc (suc (suc (suc (suc (suc m))))))))) ≡ 102 ∷ orientationText m
+unfolding kindText orientationText
+at-frame zero = refl
+at-frame (suc zero) = refl
+at-frame (suc (suc zero)) = refl
+at-frame (suc (suc (suc zero))) = refl
+at-frame (suc (suc (suc (suc m)))) = refl
+
+pub vector-name : (k : ℕ) → 5 ≤ k → k < 9 → kindText k ≡ 118 ∷ orientationText (k - 5)
+vector-name k low high = let e : k ≡ suc (suc (suc (suc (suc (k - 5))))) = omega arith in ap kindText e ∙ at-vector (k - 5) (omega arith)
+
+pub frame-name : (k : ℕ) → 9 ≤ k → kindText k ≡ 102 ∷ orientationText (k - 9)
+frame-name k low = let e : k ≡ suc (suc (suc (suc (suc (suc (suc (suc (suc (k - 9))))))))) = omega arith in ap kindText e ∙ at-frame (k - 9)
 
 code-told : (v : Value) → (kindText (kindCode (kindOf v)) ≡ kindName (kindOf v)) × (fieldCount (kindCode (kindOf v)) ≡ length (fields v))
 unfolding kindText fieldCount

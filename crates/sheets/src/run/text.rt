@@ -7,7 +7,7 @@ ghost use mathlib.Core.Path.{_≡_};
 ghost use mathlib.Core.List.{_∷_};
 ghost use Prim.Native.Nat.{_+_, _-_, _≤_};
 ghost use lib.ListN.{length, replicate};
-ghost use Rattle.sheets.specs.code.run.Writing.{Written, part, zero64, padded, fieldCount, kindText, valueText, fitting, room, lineIf};
+ghost use Rattle.sheets.specs.code.run.Writing.{Written, part, zero64, padded, fieldCount, plainLetter, orientationText, kindText, valueText, fitting, room, lineIf};
 
 // Four fields, and 0 behind them up to twelve.
 fn short_fields(a: f64, b: f64, c: f64, d: f64) -> [f64; 12]
@@ -68,26 +68,46 @@ fn put_text(w: &[u8], out: &mut [u8], at: usize) -> usize
     put_name(w, 0, w.len(), out, at)
 }
 
-// Its name. Each stands for itself: from a table of all names it would be copied by a call.
+// The letter of a kind without an orientation: n, a, l, g, d.
+fn letter_of(kind: u8) -> u8
+    ensures { λ r. ⌜ r ≡ plainLetter kind ⌝ }
+{
+    match kind {
+        0 => 110,
+        1 => 97,
+        2 => 108,
+        3 => 103,
+        _ => 100,
+    }
+}
+
+// The name of the orientation at a place among the four.
+fn put_orientation(place: u8, out: &mut [u8], at: usize) -> usize
+    requires { ⌜ at + 4 ≤ length (now out) ⌝ }
+    ensures { λ r. ⌜ Written (now (out .entry)) at (orientationText place) (now (out .exit)) r ⌝ }
+{
+    match place {
+        0 => put_text(b"enu", out, at),
+        1 => put_text(b"ned", out, at),
+        2 => put_text(b"body", out, at),
+        _ => put_text(b"wan", out, at),
+    }
+}
+
+// The name of a kind: its letter, and of a vector, v, or a frame, f, the orientation.
 fn put_kind(kind: u8, out: &mut [u8], at: usize) -> usize
     requires { ⌜ at + 5 ≤ length (now out) ⌝ }
     ensures { λ r. ⌜ Written (now (out .entry)) at (kindText kind) (now (out .exit)) r ⌝ }
 {
-    match kind {
-        0 => put_text(b"n", out, at),
-        1 => put_text(b"a", out, at),
-        2 => put_text(b"l", out, at),
-        3 => put_text(b"g", out, at),
-        4 => put_text(b"d", out, at),
-        5 => put_text(b"venu", out, at),
-        6 => put_text(b"vned", out, at),
-        7 => put_text(b"vbody", out, at),
-        8 => put_text(b"vwan", out, at),
-        9 => put_text(b"fenu", out, at),
-        10 => put_text(b"fned", out, at),
-        11 => put_text(b"fbody", out, at),
-        _ => put_text(b"fwan", out, at),
+    if kind < 5 {
+        return put_byte(letter_of(kind), out, at);
     }
+    if kind < 9 {
+        let i = put_byte(118, out, at);
+        return put_orientation(kind - 5, out, i);
+    }
+    let i = put_byte(102, out, at);
+    put_orientation(kind - 9, out, i)
 }
 
 // The value's kind and its fields: at most 209 bytes, five letters and twelve fields of 17.

@@ -1,14 +1,15 @@
 -- No part of what must be believed: what the code that prints a value answers, which ties the code to Output.
-use Prim.Native.Nat.{ℕ, _+_, _-_, _*_}
+use Prim.Native.Nat.{ℕ, _+_, _-_}
 use mathlib.Core.Path.{_≡_}
 use mathlib.Core.Bool.{Bool, true, false, _&&_}
 use mathlib.Core.List.{List, [], _∷_, _++_}
 use lib.Dec.{eqb, leb, ltb}
-use lib.ListN.{length, set, take, drop, replicate}
+use lib.ListN.{length, getD, set, take, drop, replicate}
 use lib.Ieee.{Float, binary64, ofBits}
+use Rattle.frames.specs.declared.Orientation.the-variants.{Enu, Ned, Body, Wan}
 use Rattle.sheets.specs.declared.Value.{Value}
-use Rattle.sheets.specs.Text.{ascii, _⌢_}
-use Rattle.sheets.specs.Kinds.{kindOf, kindName}
+use Rattle.sheets.specs.Text.{_⌢_}
+use Rattle.sheets.specs.Kinds.{kindOf, orientationName, kindName}
 use Rattle.sheets.specs.Table.{when}
 use Rattle.sheets.specs.code.rows.KindCodes.{kindAt}
 use Rattle.sheets.specs.Output.{fields, fieldsText, outputLine}
@@ -37,6 +38,14 @@ padded x = fields x ++ replicate (12 - length (fields x)) zero64
 -- how many fields a value of the kind with this code has
 unfoldable pub fieldCount : ℕ → ℕ
 fieldCount k = when (ltb k 3) 1 (when (eqb k 4) 4 (when (ltb k 9) 3 12))
+
+-- the letter of a kind without an orientation, by its code
+unfoldable pub plainLetter : ℕ → ℕ
+plainLetter k = getD (110 ∷ 97 ∷ 108 ∷ 103 ∷ []) k 100
+
+-- the name of an orientation, by its place
+unfoldable pub orientationText : ℕ → List ℕ
+orientationText p = orientationName (getD (Enu ∷ Ned ∷ Body ∷ []) p Wan)
 
 -- the name of the kind with this code
 unfoldable pub kindText : ℕ → List ℕ
