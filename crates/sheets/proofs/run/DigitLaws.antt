@@ -14,7 +14,7 @@ use Rattle.sheets.specs.Output.{hexDigit, hex}
 use Rattle.sheets.specs.code.run.Digits.{bytes}
 use Rattle.sheets.specs.code.run.Writing.{writes, Written}
 use Rattle.sheets.proofs.run.WritingLaws.{written-then}
-use Rattle.sheets.proofs.run.SpreadLaws.{mask, kept, and-kept, turn, spreadA, spreadB, halfC, four, turn-is, spreadA-is, spreadB-is, halfC-is}
+use Rattle.sheets.proofs.run.SpreadLaws.{mask, kept, and-kept, turn, spreadA, spreadB, halfC, turn-is, spreadA-is, spreadB-is, halfC-is}
 
 -- ---- the digits' values as the bytes of a word, the lowest first
 

@@ -1,4 +1,4 @@
--- The pieces of the run over the lines: a law for each way out of `put_readings`, `let_value`, `show` and `stopped`. Assumes nothing.
+-- The pieces of the run over the lines: a law for each way out of `put_readings`, `let_value`, `show_value`, `show` and `stopped`. Assumes nothing.
 use Prim.Native.Nat.{ℕ, _+_, _<_, _≤_}
 use native.Mathlib.Omega.{arith}
 use mathlib.Core.Path.{_≡_, refl, sym, ap, subst, _∙_}

@@ -5,7 +5,6 @@ use native.Mathlib.Omega.{arith}
 use mathlib.Core.Path.{_≡_, refl, sym, ap, ap₂, _∙_}
 use lib.Pow.{pow-pos, pow-mono, split, mod-mod-pow, ones-lt}
 use lib.Bits.{bitAnd, bitOr, or-zero-l, or-zero-r, and-block, and-mask, and-le-r, or-shr, or-mod}
-use Rattle.sheets.specs.code.run.Digits.{bytes}
 
 -- ---- a mask that keeps the k low bits of each of m + 1 fields of w bits
 
@@ -54,7 +53,7 @@ unfolding mask kept
 and4 y = and-kept 12 4 3 y
 
 -- four fields of two bytes
-abbrev pub four : ℕ → ℕ → ℕ → ℕ → ℕ
+abbrev four : ℕ → ℕ → ℕ → ℕ → ℕ
 four x₀ x₁ x₂ x₃ = ((x₃ * 0x1_0000 + x₂) * 0x1_0000 + x₁) * 0x1_0000 + x₀
 
 and4-of : (y x₀ x₁ x₂ x₃ y₁ y₂ y₃ : ℕ) → y % 16 ≡ x₀ → y / 0x1_0000 ≡ y₁ → y₁ % 16 ≡ x₁ → y₁ / 0x1_0000 ≡ y₂ → y₂ % 16 ≡ x₂ → y₂ / 0x1_0000 ≡ y₃ → y₃ % 16 ≡ x₃

@@ -21,7 +21,7 @@ ghost use mathlib.Core.Path.{_≡_};
 ghost use Prim.Native.Nat.{_+_, _≤_};
 ghost use Rattle.sheets.specs.code.run.Evaluating.{ForKinds, ForKindsBeyond, plainKeys, orientationAt, orientationBy};
 
-// The row for the word with this code, over arguments of the kinds that made the key, as in kinds.rt: by their kinds, then by the word.
+// The row for the word with this code, over arguments of the kinds that made the key, which is written as in kinds.rt: by the key, then by the word.
 pub fn apply(
     e: Ellipsoid,
     code: u64,

@@ -1,4 +1,4 @@
-// The rows over kinds without an orientation, a function for each list of kinds: the arguments lie as floats, 21 places apart, and the value is laid where the first one lies.
+// The rows over kinds without an orientation, a function for each list of kinds, P being g or d: the arguments lie as floats, 21 places apart, and the value is laid where the first one lies.
 // So each row is called at values whose kinds are known.
 // The first argument of `laid` is the letter of the row's value, and no kind's code: 1 a, 2 l, 3 g, 4 d, 5 v, 6 f.
 use crate::Evaluated;

@@ -4,7 +4,6 @@ use mathlib.Core.List.{[], _∷_}
 use mathlib.Core.Logic.{⊎-elim}
 use Rattle.sheets.specs.code.run.Evaluating.{orientationAt}
 use Rattle.sheets.proofs.run.ArmSteps.{fourth}
-use borrow.Author.Needs.{needs}
 use Rattle.sheets.proofs.run.apply.orientation_at.Statement.{statement}
 use Rattle.sheets.proofs.run.apply.orientation_at.Tie as tie
 

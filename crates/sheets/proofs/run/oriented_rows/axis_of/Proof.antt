@@ -4,7 +4,6 @@ use Rattle.sheets.specs.Text.{ascii}
 use Rattle.sheets.specs.code.reader.Codes.{wordChar, codeFrom, codeOf}
 use Rattle.sheets.specs.code.run.Evaluating.{axisIn}
 use Rattle.sheets.proofs.run.ArmSteps.{third}
-use borrow.Author.Needs.{needs}
 use Rattle.sheets.proofs.run.oriented_rows.axis_of.Statement.{statement}
 use Rattle.sheets.proofs.run.oriented_rows.axis_of.Tie as tie
 

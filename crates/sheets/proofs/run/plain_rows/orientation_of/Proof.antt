@@ -6,7 +6,6 @@ use Rattle.sheets.specs.Text.{ascii}
 use Rattle.sheets.specs.code.reader.Codes.{wordChar, codeFrom, codeOf}
 use Rattle.sheets.specs.code.run.Evaluating.{orientationIn}
 use Rattle.sheets.proofs.run.ArmSteps.{fourth}
-use borrow.Author.Needs.{needs}
 use Rattle.sheets.proofs.run.plain_rows.orientation_of.Statement.{statement}
 use Rattle.sheets.proofs.run.plain_rows.orientation_of.Tie as tie
 
