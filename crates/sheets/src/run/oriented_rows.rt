@@ -85,7 +85,7 @@ pub fn scale_row(
 }
 
 // The axis in the words rz, ry, rx.
-fn axis_of(code: u64) -> Axis
+fn axis_in(code: u64) -> Axis
     ensures { λ r. ⌜ r ≡ axisIn code ⌝ }
 {
     match code {
@@ -111,7 +111,7 @@ pub fn frame_row(
     match code {
         words::ORIGIN => laid(3, rows::apply_origin(e, frame), floats, top, end),
         words::RZ | words::RY | words::RX => {
-            let axis = axis_of(code);
+            let axis = axis_in(code);
             laid(1, rows::apply_angle(e, axis, frame), floats, top, end)
         }
         _ => Evaluated::Sticks,

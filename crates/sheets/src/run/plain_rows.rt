@@ -39,7 +39,7 @@ pub fn number_row(
 }
 
 // The orientation in a word: in venu to vwan, and in aenu to awan.
-fn orientation_of(code: u64) -> Orientation
+fn orientation_in(code: u64) -> Orientation
     ensures { λ r. ⌜ r ≡ orientationIn code ⌝ }
 {
     match code {
@@ -67,7 +67,7 @@ pub fn lengths_row(
     match code {
         words::GEO => laid(3, rows::apply_geo(e, x, y, z), floats, top, end),
         words::VENU | words::VNED | words::VBODY | words::VWAN => {
-            let o = orientation_of(code);
+            let o = orientation_in(code);
             laid(5, rows::apply_vector(e, o, x, y, z), floats, top, end)
         }
         _ => Evaluated::Sticks,
@@ -97,7 +97,7 @@ pub fn aer_row(
             end,
         ),
         words::AENU | words::ANED | words::ABODY | words::AWAN => {
-            let o = orientation_of(code);
+            let o = orientation_in(code);
             laid(
                 5,
                 rows::apply_aer(e, o, azimuth, elevation, range),

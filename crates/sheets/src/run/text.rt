@@ -60,16 +60,16 @@ fn field_count(kind: u8) -> usize
     12
 }
 
-// A text.
+// All bytes of a text.
 fn put_text(w: &[u8], out: &mut [u8], at: usize) -> usize
     requires { ⌜ at + length (now w) ≤ length (now out) ⌝ }
     ensures { λ r. ⌜ Written (now (out .entry)) at (now (w .entry)) (now (out .exit)) r ⌝ }
 {
-    put_name(w, 0, w.len(), out, at)
+    put_part(w, 0, w.len(), out, at)
 }
 
 // The letter of a kind without an orientation: n, a, l, g, d.
-fn letter_of(kind: u8) -> u8
+fn plain_letter(kind: u8) -> u8
     ensures { λ r. ⌜ r ≡ plainLetter kind ⌝ }
 {
     match kind {
@@ -100,7 +100,7 @@ fn put_kind(kind: u8, out: &mut [u8], at: usize) -> usize
     ensures { λ r. ⌜ Written (now (out .entry)) at (kindText kind) (now (out .exit)) r ⌝ }
 {
     if kind < 5 {
-        return put_byte(letter_of(kind), out, at);
+        return put_byte(plain_letter(kind), out, at);
     }
     if kind < 9 {
         let i = put_byte(118, out, at);
@@ -123,7 +123,7 @@ fn put_value(v: Value, out: &mut [u8], at: usize) -> usize
 }
 
 // The bytes of a text from `from` to `end`.
-fn put_name(s: &[u8], from: usize, end: usize, out: &mut [u8], at: usize) -> usize
+fn put_part(s: &[u8], from: usize, end: usize, out: &mut [u8], at: usize) -> usize
     requires { ⌜ (from ≤ end) × (end ≤ length (now s)) × (at + (end - from) ≤ length (now out)) ⌝ }
     ensures { λ r. ⌜ Written (now (out .entry)) at (part (now (s .entry)) from end) (now (out .exit)) r ⌝ }
 {
@@ -167,7 +167,7 @@ pub fn output_line(s: &[u8], from: usize, end: usize, v: Value, out: &mut [u8], 
     if !ok {
         return at;
     }
-    let i = put_name(s, from, end, out, at);
+    let i = put_part(s, from, end, out, at);
     let j = put_byte(32, out, i);
     let k = put_value(v, out, j);
     put_byte(10, out, k)

@@ -81,13 +81,13 @@ pub record ForKindsBeyond (keys : List ℕ) (e : Ellipsoid) (code key : ℕ) (f 
 unfoldable pub plainKeys : List ℕ
 plainKeys = 0x552 ∷ 0x442 ∷ 0x2225 ∷ 0x2224 ∷ 0x25 ∷ 0x24 ∷ 0x5 ∷ 0x4 ∷ 0x223 ∷ 0x333 ∷ 0x1 ∷ []
 
--- the orientation whose numbers hold this one, or the last
-abbrev orientationOf : (Orientation → List ℕ) → ℕ → Orientation
-orientationOf ns n = when (hasKey (ns Enu) n) Enu (when (hasKey (ns Ned) n) Ned (when (hasKey (ns Body) n) Body Wan))
+-- the orientation among whose numbers this one is, or the last
+abbrev orientationHaving : (Orientation → List ℕ) → ℕ → Orientation
+orientationHaving ns n = when (hasKey (ns Enu) n) Enu (when (hasKey (ns Ned) n) Ned (when (hasKey (ns Body) n) Body Wan))
 
 -- by the digit, in a key, of a vector's or a frame's kind
 unfoldable pub orientationAt : ℕ → Orientation
-orientationAt = orientationOf (λ o. (6 + place o) ∷ (10 + place o) ∷ [])
+orientationAt = orientationHaving (λ o. (6 + place o) ∷ (10 + place o) ∷ [])
 
 -- by a key's first digit, of one, two or five
 unfoldable pub orientationBy : ℕ → Orientation
@@ -95,7 +95,7 @@ orientationBy k = when (ltb k 0x10) (orientationAt k) (when (ltb k 0x100) (orien
 
 -- by the code of a word that makes a vector
 unfoldable pub orientationIn : ℕ → Orientation
-orientationIn = orientationOf (λ o. codeOf (aerWord o) ∷ codeOf (vectorWord o) ∷ [])
+orientationIn = orientationHaving (λ o. codeOf (aerWord o) ∷ codeOf (vectorWord o) ∷ [])
 
 -- the axis by the code of a word for an angle of a frame
 unfoldable pub axisIn : ℕ → Axis

@@ -24,8 +24,8 @@ apply-origin-requires c κs = search needs
 laid-requires : tie.Need-laid-requires
 laid-requires c κs = search needs
 
-axis-of-requires : tie.Need-axis-of-requires
-axis-of-requires c κs = search needs
+axis-in-requires : tie.Need-axis-in-requires
+axis-in-requires c κs = search needs
 
 apply-angle-requires : tie.Need-apply-angle-requires
 apply-angle-requires c κs = search needs
@@ -39,7 +39,7 @@ returns c = row-laid (ascii "origin") tt 3 tt _ _ _ _ _ _ _ (one-at _ _ _ (c .be
 
 returns-2 : tie.Need-returns-2
 unfolding table wordChar codeFrom axisIn
-returns-2 c = row-by axisWord axisIn 1 (X ∷ Y ∷ Z ∷ []) ((refl, tt), ((refl, tt), ((refl, tt), tt))) (one-at _ _ _ (c .before .before .before .before .before .before .before .frame-at .ensures)) _ (c .before .before .before .axis-of .ensures) (c .before .before .apply-angle .ensures) (c .laid2 .ensures) (one-from (codeOf (ascii "rx")) 3 _ (c .before .before .before .before .before .if1 .left) (c .before .before .before .before .if2 .taken))
+returns-2 c = row-by axisWord axisIn 1 (X ∷ Y ∷ Z ∷ []) ((refl, tt), ((refl, tt), ((refl, tt), tt))) (one-at _ _ _ (c .before .before .before .before .before .before .before .frame-at .ensures)) _ (c .before .before .before .axis-in .ensures) (c .before .before .apply-angle .ensures) (c .laid2 .ensures) (one-from (codeOf (ascii "rx")) 3 _ (c .before .before .before .before .before .if1 .left) (c .before .before .before .before .if2 .taken))
 
 -- the codes of the arms, the last first: rx, ry and rz follow each other
 abbrev arms : List (List ℕ)
@@ -54,4 +54,4 @@ unfolding kindRows table wordChar codeFrom
 returns-4 c = row-none (6 ∷ []) (flat arms) tt _ _ _ tt _ _ _ (missed-flat arms _ (c .before .before .match .rest, none-above (codeOf (ascii "rx")) 3 (c .if2 .left)))
 
 pub frame-row-spec : {M : Type 1} → statement M
-frame-row-spec = tie.close (tie.spec frame-at-requires apply-origin-requires laid-requires axis-of-requires apply-angle-requires laid-requires-2 returns returns-2 returns-3 returns-4)
+frame-row-spec = tie.close (tie.spec frame-at-requires apply-origin-requires laid-requires axis-in-requires apply-angle-requires laid-requires-2 returns returns-2 returns-3 returns-4)

@@ -36,8 +36,8 @@ apply-lla-requires c κs = search needs
 laid-requires : tie.Need-laid-requires
 laid-requires c κs = search needs
 
-orientation-of-requires : tie.Need-orientation-of-requires
-orientation-of-requires c κs = search needs
+orientation-in-requires : tie.Need-orientation-in-requires
+orientation-in-requires c κs = search needs
 
 apply-aer-requires : tie.Need-apply-aer-requires
 apply-aer-requires c κs = search needs
@@ -51,7 +51,7 @@ returns c = row-laid (ascii "lla") tt 4 tt _ _ _ _ _ _ _ (three-at _ _ _ _ _ (c 
 
 returns-2 : tie.Need-returns-2
 unfolding table wordChar codeFrom orientationIn
-returns-2 c = row-by aerWord orientationIn 5 (Enu ∷ Ned ∷ Wan ∷ Body ∷ []) ((refl, tt), ((refl, tt), ((refl, tt), ((refl, tt), tt)))) (three-at _ _ _ _ _ (c .before .before .before .before .before .before .before .before .before .angle-at .ensures) (c .before .before .before .before .before .before .before .angle-at2 .ensures) (c .before .before .before .before .before .length-at .ensures)) _ (c .before .before .before .orientation-of .ensures) (c .before .before .apply-aer .ensures) (c .laid2 .ensures) (c .before .before .before .before .match .keys2)
+returns-2 c = row-by aerWord orientationIn 5 (Enu ∷ Ned ∷ Wan ∷ Body ∷ []) ((refl, tt), ((refl, tt), ((refl, tt), ((refl, tt), tt)))) (three-at _ _ _ _ _ (c .before .before .before .before .before .before .before .before .before .angle-at .ensures) (c .before .before .before .before .before .before .before .angle-at2 .ensures) (c .before .before .before .before .before .length-at .ensures)) _ (c .before .before .before .orientation-in .ensures) (c .before .before .apply-aer .ensures) (c .laid2 .ensures) (c .before .before .before .before .match .keys2)
 
 -- the codes of the arms, the last first
 abbrev arms : List (List ℕ)
@@ -62,4 +62,4 @@ unfolding kindRows table wordChar codeFrom
 returns-3 c = row-none (1 ∷ 1 ∷ 2 ∷ []) (flat arms) tt _ _ _ tt _ _ _ (missed-flat arms _ (c .match .rest))
 
 pub aer-row-spec : {M : Type 1} → statement M
-aer-row-spec = tie.close (tie.spec angle-at-requires add-angle-at angle-at-requires-2 add-length-at length-at-requires apply-lla-requires laid-requires orientation-of-requires apply-aer-requires laid-requires-2 returns returns-2 returns-3)
+aer-row-spec = tie.close (tie.spec angle-at-requires add-angle-at angle-at-requires-2 add-length-at length-at-requires apply-lla-requires laid-requires orientation-in-requires apply-aer-requires laid-requires-2 returns returns-2 returns-3)

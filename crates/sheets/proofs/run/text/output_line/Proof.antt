@@ -20,8 +20,8 @@ told : (c : tie.Else1) →
     (a .from ≤ a .end) × (a .end ≤ length (a .s .now)) × (a .at + (a .end - a .from) ≤ length (a .out .now)) × (a .at + length (part (a .s .now) (a .from) (a .end)) + 211 ≤ length (a .out .now))
 told c = let a = c .before .before .before .before .args in room-told _ (a .s .now) _ _ (a .out .now) _ (c .before .has-room .ensures) (c .if1 .left)
 
-put-name-requires : tie.Need-put-name-requires
-put-name-requires c κs = let h = told (c .before) in (h .0, h .1, h .2)
+put-part-requires : tie.Need-put-part-requires
+put-part-requires c κs = let h = told (c .before) in (h .0, h .1, h .2)
 
 put-byte-requires : tie.Need-put-byte-requires
 put-byte-requires c κs = omega (arith, told (c .before .before .before .before .before) .3)
@@ -42,7 +42,7 @@ returns-2 c =
     let c₃ = c₂ .before .before .before .before in
     let c₄ = c₃ .before .before in
     let c₅ = c₄ .before in
-    line-whole _ _ _ _ (c₅ .has-room .result) _ (c₅ .has-room .ensures) (c₄ .if1 .left) (c₃ .put-name .ensures) (c₂ .put-byte .ensures) (c₁ .put-value .ensures) (c .before .before .put-byte2 .ensures)
+    line-whole _ _ _ _ (c₅ .has-room .result) _ (c₅ .has-room .ensures) (c₄ .if1 .left) (c₃ .put-part .ensures) (c₂ .put-byte .ensures) (c₁ .put-value .ensures) (c .before .before .put-byte2 .ensures)
 
 pub output-line-spec : {M : Type 1} → statement M
 output-line-spec =
@@ -50,7 +50,7 @@ output-line-spec =
     (tie.spec
     has-room-requires
     returns
-    put-name-requires
+    put-part-requires
     put-byte-requires
     put-value-requires
     put-byte-requires-2

@@ -6,8 +6,8 @@ use borrow.Author.Needs.{needs}
 use Rattle.sheets.proofs.run.text.put_kind.Statement.{statement}
 use Rattle.sheets.proofs.run.text.put_kind.Tie as tie
 
-letter-of-requires : tie.Need-letter-of-requires
-letter-of-requires c κs = search needs
+plain-letter-requires : tie.Need-plain-letter-requires
+plain-letter-requires c κs = search needs
 
 put-byte-requires : tie.Need-put-byte-requires
 put-byte-requires c κs = search needs
@@ -16,7 +16,7 @@ same-length : tie.Need-same-length
 same-length c = search needs
 
 returns : tie.Need-returns
-returns c = rw (plain-name _ (c .before .before .before .before .before .if1 .taken), ← c .before .before .before .before .letter-of .ensures) (c .before .before .put-byte .ensures)
+returns c = rw (plain-name _ (c .before .before .before .before .before .if1 .taken), ← c .before .before .before .before .plain-letter .ensures) (c .before .before .put-byte .ensures)
 
 put-byte-requires-2 : tie.Need-put-byte-requires-2
 put-byte-requires-2 c κs = search needs
@@ -46,7 +46,7 @@ pub put-kind-spec : {M : Type 1} → statement M
 put-kind-spec =
     tie.close
     (tie.spec
-    letter-of-requires
+    plain-letter-requires
     put-byte-requires
     same-length
     returns

@@ -1,12 +1,12 @@
--- `sheets::run::text::put_name` meets its contract. Assumes nothing.
+-- `sheets::run::text::put_part` meets its contract. Assumes nothing.
 use mathlib.Core.Path.{_≡_, refl}
 use Prim.Native.Nat.{_+_, _-_, _≤_}
 use native.Mathlib.Omega.{arith}
 use lib.ListN.{length, length-set}
 use Rattle.sheets.specs.code.run.Writing.{writes, part}
 use Rattle.sheets.proofs.run.WritingLaws.{name-turn, name-written}
-use Rattle.sheets.proofs.run.text.put_name.Statement.{statement}
-use Rattle.sheets.proofs.run.text.put_name.Tie as tie
+use Rattle.sheets.proofs.run.text.put_part.Statement.{statement}
+use Rattle.sheets.proofs.run.text.put_part.Tie as tie
 
 abbrev Inv-loop : tie.InvT-loop
 Inv-loop s from end out₀ at i₀ n₀ out i n =
@@ -42,8 +42,8 @@ same-length c = c .before .loop .inv .2
 returns : tie.Need-returns Inv-loop μ-loop
 returns c = name-written _ _ _ _ (c .before .before .args .from) (c .before .loop .i) _ (c .before .before .args .end) (omega arith) (omega arith) (omega arith) (omega arith) (c .before .loop .inv .3)
 
-pub put-name-spec : {M : Type 1} → statement M
-put-name-spec =
+pub put-part-spec : {M : Type 1} → statement M
+put-part-spec =
     tie.close
     (tie.spec
     Inv-loop

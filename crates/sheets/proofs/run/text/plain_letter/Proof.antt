@@ -1,9 +1,9 @@
--- `sheets::run::text::letter_of` meets its contract. Assumes nothing.
+-- `sheets::run::text::plain_letter` meets its contract. Assumes nothing.
 use mathlib.Core.Path.{refl}
 use Rattle.sheets.specs.code.run.Writing.{plainLetter}
 use Rattle.sheets.proofs.run.ValueText.{plain-last}
-use Rattle.sheets.proofs.run.text.letter_of.Statement.{statement}
-use Rattle.sheets.proofs.run.text.letter_of.Tie as tie
+use Rattle.sheets.proofs.run.text.plain_letter.Statement.{statement}
+use Rattle.sheets.proofs.run.text.plain_letter.Tie as tie
 
 returns : tie.Need-returns
 unfolding plainLetter
@@ -24,5 +24,5 @@ returns-4 c = rw (c .match .keys4) refl
 returns-5 : tie.Need-returns-5
 returns-5 c = plain-last _ (c .match .rest)
 
-pub letter-of-spec : {M : Type 1} → statement M
-letter-of-spec = tie.close (tie.spec returns returns-2 returns-3 returns-4 returns-5)
+pub plain-letter-spec : {M : Type 1} → statement M
+plain-letter-spec = tie.close (tie.spec returns returns-2 returns-3 returns-4 returns-5)
