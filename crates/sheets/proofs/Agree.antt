@@ -8,17 +8,18 @@ use lib.Ieee.{Float}
 use Rattle.frames.specs.declared.Ellipsoid.{Ellipsoid}
 use Rattle.frames.specs.declared.LocalFrame.{LocalFrame}
 use Rattle.sheets.specs.declared.Value.{Value}
-use Rattle.sheets.specs.declared.Value.the-variants.{Number}
+use Rattle.sheets.specs.declared.Value.the-variants.{Number, Metres}
 use Rattle.sheets.specs.Text.{Word}
-use Rattle.sheets.specs.Trees.{Expr, Exprs, word-expr, num-expr, form-expr, nil, _▸_, Line, let-line, show-line}
-use Rattle.sheets.specs.Kinds.{Kind, number, kindOf, kindCode}
+use Rattle.sheets.specs.Trees.{Expr, Exprs, word-expr, num-expr, form-expr, nil, _▸_, Line, let-line, show-line, total-line}
+use Rattle.sheets.specs.Kinds.{Kind, number, len, kindOf, kindCode}
 use Rattle.sheets.specs.Table.{on, table}
 use Rattle.sheets.specs.Lookup.{Hit, find, findKind}
 use Rattle.sheets.specs.Names.{Given, Known, lookup, readingWords, givenOn}
 use Rattle.sheets.specs.Scopes.{Scope, opened, give}
 use Rattle.sheets.specs.Limits.{numValue, inLimit}
+use Rattle.sheets.specs.Entries.{total}
 use Rattle.sheets.specs.Refusals.{Fault, name, kind, Checked, fine, bad, thenᶜ, known?}
-use Rattle.sheets.specs.Machine.{Out, goes, stops, sticks, after, then, orSticks, test, meet, made, result, provided, applyRow, eval, evals, State, rescoped, step, readings}
+use Rattle.sheets.specs.Machine.{Out, goes, stops, sticks, after, then, orSticks, test, met, meet, made, result, provided, applyRow, eval, evals, State, rescoped, step, readings}
 use Rattle.sheets.specs.Check.{kindOfExpr, kindsOfExprs, Stateᶜ, lineᶜ, noted, stepᶜ, readingKinds}
 use Rattle.sheets.proofs.rows.FindKind.{given, mapped, find-kind}
 use Rattle.sheets.proofs.rows.Kept.{Kept, OfHit, kept-find}
@@ -125,6 +126,7 @@ agree-line i s c (let-line w x) l =
     agree-scope s (kindCode k) (give g (s .scope)) (give h c) (give-like Sees g h (s .scope) c (refl, refl, r) l))
 agree-line i s c (show-line w) l =
     agree-then Sees Leaving (meet (lookup w (s .scope .known))) (known? name (lookup w (c .known))) _ _ (agree-word w (s .scope .known) (c .known) (l .known-like)) (λ y k r. ((kindCode k, c), refl, l))
+agree-line i s c total-line l = agree-then Sees Leaving (met (Metres (total (s .entries)))) (fine len) _ _ (agree-test [] (inLimit (Metres (total (s .entries)))) (Metres (total (s .entries))) len refl) (λ y k r. ((2, c), refl, l))
 
 pub agree-step : (i : ℕ) (s : State) (c : Stateᶜ) (x : Line) → View s c → Agree View (step i s x) (stepᶜ i c x)
 unfolding stepᶜ

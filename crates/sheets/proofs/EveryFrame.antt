@@ -1,7 +1,11 @@
 -- Every frame that the machine makes is sound. The law of values: numbers, lengths and positions are of doubles, a geodetic position's n-vector went through `Vec3::new`, a frame is sound. Assumes nothing.
-use mathlib.Core.List.{List}
+use mathlib.Core.List.{List, [], _∷_}
+use mathlib.Core.Option.{Option, none, some}
+use Prim.Native.Nat.{ℕ}
 use lib.Ieee.{Float, binary64}
-use lib.Ieee.Fits.{round-fits}
+use lib.Ieee.Fits.{round-fits, add-fits}
+use Rattle.numbers.specs.Ops.{num}
+use Rattle.numbers.specs.declared.Length.{Length}
 use Rattle.numbers.proofs.FitLaws.{Fits, decimal-fits}
 use Rattle.frames.proofs.PositionLaws.{FitPosition, SettledPosition, geocentric-fits, geodeticToGeocentric-fits, latlong-settled, geocentricToGeodetic-settled}
 use Rattle.frames.proofs.FitLaws.{slantRange-fits}
@@ -9,13 +13,15 @@ use Rattle.frames.proofs.FrameLaws.{Sound, enuFromGeocentric-sound, enuFromGeod
 use Rattle.sheets.specs.declared.Value.{Value}
 use Rattle.sheets.specs.declared.Value.the-variants.{Number, Radians, Metres, Geocentric, Geodetic, Vector, Frame}
 use Rattle.sheets.specs.Trees.{Num, Sheet}
+use Rattle.sheets.specs.Letters.{𝐥, held}
 use Rattle.sheets.specs.Table.{table}
+use Rattle.sheets.specs.Entries.{Entry, shown, summed, entryValue, plus, sumFrom, total}
 use Rattle.sheets.specs.Limits.{numValue}
 use Rattle.sheets.specs.Machine.{machine}
 use Rattle.sheets.specs.Claim.{All, framesMade}
-use Rattle.sheets.proofs.Trace.{Keeps, fine-frames}
+use Rattle.sheets.proofs.Trace.{Keeps, lastState, good-ran}
 
-abbrev Good : Value → Type 0
+abbrev pub Good : Value → Type 0
 Good (Number x) = Fits x
 Good (Radians a) = Unit {0}
 Good (Metres l) = Fits (l .0)
@@ -27,6 +33,19 @@ Good (Frame f) = Sound f
 nums : (q : Num) → Good (Number (numValue q))
 unfolding numValue
 nums q = round-fits binary64 _ _ _
+
+sums : (es : List Entry) → Good (Metres (total es))
+unfolding total
+sums es = go (num 0) es (decimal-fits 0 0)
+  where
+    plus-fits : (t : Float) (o : Option Length) → Fits t → Fits (plus t o)
+    plus-fits t none h = h
+    plus-fits t (some l) h = add-fits binary64 t (l .0)
+
+    go : (t : Float) (es : List Entry) → Fits t → Fits (sumFrom t es)
+    go t [] h = h
+    go t (shown i w x ∷ es) h = go (plus t (held 𝐥 x)) es (plus-fits t (held 𝐥 x) h)
+    go t (summed u ∷ es) h = go t es h
 
 rows : All (Keeps Good Sound) table
 unfolding table
@@ -153,4 +172,8 @@ rows = (
 )
 
 pub every-frame : (c : Sheet) (rs : List Float) → All Fits rs → All Sound (framesMade (machine c rs))
-every-frame c rs h = fine-frames Good Sound nums rows c rs (decimal-fits 0 0) h
+every-frame c rs h = good-ran Good Sound nums sums rows c rs (decimal-fits 0 0) h .0
+
+-- and every length shown is a double
+pub every-length : (c : Sheet) (rs : List Float) → All Fits rs → All (λ a. Good (entryValue a)) (lastState (machine c rs) .entries)
+every-length c rs h = good-ran Good Sound nums sums rows c rs (decimal-fits 0 0) h .1

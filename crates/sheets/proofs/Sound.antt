@@ -9,7 +9,7 @@ use lib.ListN.{length, getD, length-append, List·getD-append}
 use lib.Ieee.{Float}
 use Rattle.frames.specs.declared.LocalFrame.{LocalFrame}
 use Rattle.sheets.specs.Text.{Word}
-use Rattle.sheets.specs.Trees.{Line, let-line, show-line, Sheet, numbered}
+use Rattle.sheets.specs.Trees.{Line, let-line, show-line, total-line, Sheet, numbered}
 use Rattle.sheets.specs.Kinds.{Kind, kindCode}
 use Rattle.sheets.specs.Names.{Given, lookup, barred, givenOn}
 use Rattle.sheets.specs.Scopes.{Scope, giveIf}
@@ -82,6 +82,7 @@ noting : (i : ℕ) (s : Stateᶜ) (x : Line) → Tidy i s → Noting i s (line�
 unfolding lineᶜ
 noting i s (let-line w x) h = noting-then i s (kindOfExpr x (s .scope .known)) _ (λ k. noting-give (barred w (s .scope .known)) i s w k h)
 noting i s (show-line w) h = noting-then i s (known? name (lookup w (s .scope .known))) _ (λ k. noting-none i s (kindCode k) (s .scope) h refl)
+noting i s total-line h = noting-none i s 2 (s .scope) h refl
 
 next-step : (i : ℕ) (s : Stateᶜ) (x : Line) → Tidy i s → Next i s (stepᶜ i s x)
 unfolding stepᶜ

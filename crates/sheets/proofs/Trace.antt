@@ -1,4 +1,4 @@
--- What holds of every frame that the machine makes, from a law of each row: a law of values that readings and NUMs have, and that every row keeps. Assumes nothing.
+-- What holds of every frame that the machine makes and of every value shown, from a law of each row: a law of values that readings, NUMs and totals have, and that every row keeps. Assumes nothing.
 use mathlib.Core.List.{List, [], _∷_, _++_}
 use mathlib.Core.Option.{Option, none, some}
 use mathlib.Core.Bool.{Bool, true, false}
@@ -11,15 +11,22 @@ use Rattle.sheets.proofs.ByCases.{by-cases}
 use Rattle.sheets.specs.declared.Value.{Value}
 use Rattle.sheets.specs.declared.Value.the-variants.{Number, Radians, Metres, Geocentric, Geodetic, Vector, Frame}
 use Rattle.sheets.specs.Text.{Word}
-use Rattle.sheets.specs.Trees.{Num, Expr, Exprs, word-expr, num-expr, form-expr, nil, _▸_, Line, let-line, show-line, Sheet, numbered}
+use Rattle.sheets.specs.Trees.{Num, Expr, Exprs, word-expr, num-expr, form-expr, nil, _▸_, Line, let-line, show-line, total-line, Sheet, numbered}
 use Rattle.sheets.specs.Letters.{Letter, 𝐧, 𝐚, 𝐥, 𝐠, 𝐝, 𝐯, 𝐟, ⟦_⟧, Holds, held, hold, both, orientations}
 use Rattle.sheets.specs.Table.{Row, on, when, table}
 use Rattle.sheets.specs.Lookup.{sameWord, shared, Hit, hit, find}
 use Rattle.sheets.specs.Names.{Given, Known, orElse, lookup, barred, readingWords, givenOn}
+use Rattle.sheets.specs.Entries.{Entry, shown, summed, entryValue, total}
 use Rattle.sheets.specs.Scopes.{giveIf}
 use Rattle.sheets.specs.Limits.{numValue, inLimit}
-use Rattle.sheets.specs.Machine.{Out, goes, stops, sticks, after, then, test, meet, made, result, provided, applyRow, eval, evals, State, rescoped, step, Ran, done, stopped, stuck, afterwards, onward, steps, readings, start, machine}
+use Rattle.sheets.specs.Machine.{Out, goes, stops, sticks, after, then, test, met, meet, made, result, provided, applyRow, eval, evals, State, rescoped, write, step, Ran, done, stopped, stuck, afterwards, onward, steps, readings, start, machine}
 use Rattle.sheets.specs.Claim.{All, framesMade}
+
+-- the state in which a run came to its end
+abbrev pub lastState : Ran → State
+lastState (done fs s) = s
+lastState (stopped fs r i s) = s
+lastState (stuck fs i s) = s
 
 each-append : {A : Type 0} (P : A → Type 0) (xs ys : List A) → All P xs → All P ys → All P (xs ++ ys)
 each-append P [] ys h k = k
@@ -44,7 +51,7 @@ module _ (Good : Value → Type 0) (Fine : LocalFrame → Type 0) where
   abbrev pub Keeps : Row → Type 0
   Keeps r = (e : Ellipsoid) (xs : Holds (r .takes)) → GoodArgs (r .takes) xs → Good (on (r .takes) (r .apply e) xs) × All Fine (made (on (r .takes) (r .apply e) xs))
 
-module _ (Good : Value → Type 0) (Fine : LocalFrame → Type 0) (nums : (q : Num) → Good (Number (numValue q))) (rows : All (Keeps Good Fine) table) where
+module _ (Good : Value → Type 0) (Fine : LocalFrame → Type 0) (nums : (q : Num) → Good (Number (numValue q))) (sums : (es : List Entry) → Good (Metres (total es))) (rows : All (Keeps Good Fine) table) where
   abbrev GoodOption : (s : Letter) → Option ⟦ s ⟧ → Type 0
   GoodOption s none = Unit {0}
   GoodOption s (some y) = Good (valueOf s y)
@@ -162,40 +169,49 @@ module _ (Good : Value → Type 0) (Fine : LocalFrame → Type 0) (nums : (q : N
         good-then Good (All Good) (eval x e ps) _ (good-eval x e ps h) (λ y i.
         good-then (All Good) (All Good) (evals xs e ps) _ (good-evals xs e ps h) (λ ys j. ((i, j), tt)))
 
+  -- what is known and what is shown are good
   abbrev GoodState : State → Type 0
-  GoodState s = GoodKnown (s .scope .known)
+  GoodState s = GoodKnown (s .scope .known) × All (λ a. Good (entryValue a)) (s .entries)
+
+  good-write : (s : State) (a : Entry) → GoodState s → Good (entryValue a) → GoodState (write s a)
+  good-write s a h j = (h .0, each-append (λ a. Good (entryValue a)) (s .entries) (a ∷ []) (h .1) (j, tt))
 
   good-give : (b : Bool) (g : Given Value) (s : State) → GoodState s → Good (g .value) → GoodOut GoodState (rescoped s (giveIf b g (s .scope)))
   good-give true g s h j = tt
-  good-give false g s h j = ((j, h), tt)
+  good-give false g s h j = (((j, h .0), h .1), tt)
 
   good-step : (i : ℕ) (s : State) (x : Line) → GoodState s → GoodOut GoodState (step i s x)
   unfolding step
   good-step i s (let-line w x) h =
-      good-then Good GoodState (eval x (s .ellipsoid) (s .scope .known)) _ (good-eval x (s .ellipsoid) (s .scope .known) h) (λ y j. good-give (barred w (s .scope .known)) (givenOn i w y) s h j)
-  good-step i s (show-line w) h = good-then Good GoodState (meet (lookup w (s .scope .known))) _ (good-meet (lookup w (s .scope .known)) (good-lookup w (s .scope .known) h)) (λ y j. (h, tt))
+      good-then Good GoodState (eval x (s .ellipsoid) (s .scope .known)) _ (good-eval x (s .ellipsoid) (s .scope .known) (h .0)) (λ y j. good-give (barred w (s .scope .known)) (givenOn i w y) s h j)
+  good-step i s (show-line w) h = good-then Good GoodState (meet (lookup w (s .scope .known))) _ (good-meet (lookup w (s .scope .known)) (good-lookup w (s .scope .known) (h .0))) (λ y j. (good-write s (shown i w y) h j, tt))
+  good-step i s total-line h = good-then Good GoodState (met (Metres (total (s .entries)))) _ (good-test [] (inLimit (Metres (total (s .entries)))) (Metres (total (s .entries))) tt (sums (s .entries))) (λ y j. (good-write s (summed (total (s .entries))) h (sums (s .entries)), tt))
 
-  good-afterwards : (fs : List LocalFrame) (r : Ran) → All Fine fs → All Fine (framesMade r) → All Fine (framesMade (afterwards fs r))
-  good-afterwards fs (done hs s) h i = each-append Fine fs hs h i
-  good-afterwards fs (stopped hs c j s) h i = each-append Fine fs hs h i
-  good-afterwards fs (stuck hs j s) h i = each-append Fine fs hs h i
+  -- so are the frames made, however the run came to its end
+  abbrev GoodRan : Ran → Type 0
+  GoodRan r = All Fine (framesMade r) × GoodState (lastState r)
 
-  good-onward : (o : Out State) (i : ℕ) (s : State) (k : State → Ran) → GoodOut GoodState o → ((t : State) → GoodState t → All Fine (framesMade (k t))) → All Fine (framesMade (onward o i s k))
-  good-onward (goes fs t) i s k h j = good-afterwards fs (k t) (h .1) (j t (h .0))
-  good-onward (stops fs c) i s k h j = h
-  good-onward (sticks fs) i s k h j = h
+  good-afterwards : (fs : List LocalFrame) (r : Ran) → All Fine fs → GoodRan r → GoodRan (afterwards fs r)
+  good-afterwards fs (done hs s) h i = (each-append Fine fs hs h (i .0), i .1)
+  good-afterwards fs (stopped hs c j s) h i = (each-append Fine fs hs h (i .0), i .1)
+  good-afterwards fs (stuck hs j s) h i = (each-append Fine fs hs h (i .0), i .1)
 
-  good-steps : (xs : List Line) (i : ℕ) (s : State) → GoodState s → All Fine (framesMade (steps (numbered i xs) s))
+  good-onward : (o : Out State) (i : ℕ) (s : State) (k : State → Ran) → GoodState s → GoodOut GoodState o → ((t : State) → GoodState t → GoodRan (k t)) → GoodRan (onward o i s k)
+  good-onward (goes fs t) i s k g h j = good-afterwards fs (k t) (h .1) (j t (h .0))
+  good-onward (stops fs c) i s k g h j = (h, g)
+  good-onward (sticks fs) i s k g h j = (h, g)
+
+  good-steps : (xs : List Line) (i : ℕ) (s : State) → GoodState s → GoodRan (steps (numbered i xs) s)
   unfolding steps
-  good-steps [] i s h = tt
-  good-steps (x ∷ xs) i s h = good-onward (step i s x) i s _ (good-step i s x h) (λ t j. good-steps xs (suc i) t j)
+  good-steps [] i s h = (tt, h)
+  good-steps (x ∷ xs) i s h = good-onward (step i s x) i s _ h (good-step i s x h) (λ t j. good-steps xs (suc i) t j)
 
   good-readings : (ws : List Word) (rs : List Float) → Good (Number (num 0)) → All (λ r. Good (Number r)) rs → GoodKnown (readings ws rs)
   good-readings [] rs z h = tt
   good-readings (w ∷ ws) [] z h = (z, good-readings ws [] z tt)
   good-readings (w ∷ ws) (r ∷ rs) z h = (h .0, good-readings ws rs z (h .1))
 
-  -- every frame that the machine makes is fine, stopped or stuck though it may be
-  pub fine-frames : (c : Sheet) (rs : List Float) → Good (Number (num 0)) → All (λ r. Good (Number r)) rs → All Fine (framesMade (machine c rs))
+  -- every frame that the machine makes is fine, and every value shown good, stopped or stuck though it may be
+  pub good-ran : (c : Sheet) (rs : List Float) → Good (Number (num 0)) → All (λ r. Good (Number r)) rs → All Fine (framesMade (machine c rs)) × All (λ a. Good (entryValue a)) (lastState (machine c rs) .entries)
   unfolding machine
-  fine-frames c rs z h = good-steps (c .lines) 2 (start (c .head) rs) (good-readings readingWords rs z h)
+  good-ran c rs z h = let g = good-steps (c .lines) 2 (start (c .head) rs) (good-readings readingWords rs z h, tt) in (g .0, g .1 .1)

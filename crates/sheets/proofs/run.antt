@@ -17,4 +17,7 @@ pub mod EvalSteps
 pub mod BracketSteps
 pub mod RunParts
 pub mod StepLaws
+pub mod Stages
+pub mod WholeParts
+pub mod WholeSteps
 pub mod RunSteps

@@ -5,7 +5,7 @@ use mathlib.Core.List.{List, [], _∷_}
 use mathlib.Core.Option.{some}
 use mathlib.Core.Bool.{false}
 use Prim.Native.Nat.{ℕ, suc}
-use Rattle.sheets.specs.Trees.{Expr, Exprs, word-expr, num-expr, form-expr, nil, _▸_, Line, let-line, show-line}
+use Rattle.sheets.specs.Trees.{Expr, Exprs, word-expr, num-expr, form-expr, nil, _▸_, Line, let-line, show-line, total-line}
 use Rattle.sheets.specs.Kinds.{Kind, number, kindCode}
 use Rattle.sheets.specs.Table.{table}
 use Rattle.sheets.specs.Lookup.{KindRow, kindRows, opens}
@@ -28,10 +28,11 @@ abbrev mutual
   HaveKinds (x ▸ xs) ks js = (j : Kind) × (is : List Kind) × HasKind x ks j × HaveKinds xs ks is × (j ∷ is ≡ js)
 
 -- Line i, where the words ks are known: after it the words js are known, and it has this kind code.
--- A let gives a word that is neither an operator's nor known; a show's word is known.
+-- A let gives a word that is neither an operator's nor known; a show's word is known; a total's kind code is 2.
 abbrev pub LineFits : ℕ → Known Kind → Line → Known Kind → ℕ → Type 0
 LineFits i ks (let-line w x) js n = (k : Kind) × HasKind x ks k × (opens table w ≡ false) × (knows w ks ≡ false) × (givenOn i w k ∷ ks ≡ js) × (kindCode k ≡ n)
 LineFits i ks (show-line w) js n = (k : Kind) × (lookup w ks ≡ some k) × (ks ≡ js) × (kindCode k ≡ n)
+LineFits i ks total-line js n = (ks ≡ js) × (2 ≡ n)
 
 -- these lines from line i on, where the words ks are known before them, with their kind codes
 abbrev pub LinesFit : ℕ → Known Kind → List Line → List ℕ → Type 0

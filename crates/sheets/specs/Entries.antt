@@ -1,17 +1,49 @@
--- What the output lines show, in order: the text is their lines.
+-- What the output lines show, in order: the text is their lines, and a total looks back on them.
 use Prim.Native.Nat.{ℕ}
 use mathlib.Core.List.{List, [], _∷_}
+use mathlib.Core.Option.{Option, none, some}
+use lib.Ieee.{Float}
+use Rattle.numbers.specs.Ops.{_⊕_, num}
+use Rattle.numbers.specs.Lengths.{metres}
+use Rattle.numbers.specs.declared.Length.{Length}
 use Rattle.sheets.specs.declared.Value.{Value}
-use Rattle.sheets.specs.Text.{Word, _⌢_}
+use Rattle.sheets.specs.declared.Value.the-variants.{Metres}
+use Rattle.sheets.specs.Text.{Word, ascii, _⌢_}
+use Rattle.sheets.specs.Letters.{𝐥, held}
 use Rattle.sheets.specs.Output.{outputLine}
 
--- an output line: that of the show on this line, of this word and value
+-- an output line: that of the show on this line, of this word and value; or that of a total, of this sum
 pub data Entry : Type 0 where
   shown : ℕ → Word → Value → Entry
+  summed : Length → Entry
+
+-- the name and the value that it prints: a total writes `total`, the word l and one field
+abbrev pub entryName : Entry → Word
+entryName (shown i w x) = w
+entryName (summed t) = ascii "total"
+
+abbrev pub entryValue : Entry → Value
+entryValue (shown i w x) = x
+entryValue (summed t) = Metres t
 
 abbrev pub entryLine : Entry → List ℕ
-entryLine (shown i w x) = outputLine w x
+entryLine e = outputLine (entryName e) (entryValue e)
 
 abbrev pub entryLines : List Entry → List ℕ
 entryLines [] = []
 entryLines (e ∷ es) = entryLine e ⌢ entryLines es
+
+-- ---- a total, after document 02, request Two: the sum, from zero in line order, of every l value shown, totals aside
+
+-- a sum and the length behind it, where there is one
+abbrev pub plus : Float → Option Length → Float
+plus t none = t
+plus t (some l) = t ⊕ l .0
+
+abbrev pub sumFrom : Float → List Entry → Float
+sumFrom t [] = t
+sumFrom t (shown i w x ∷ es) = sumFrom (plus t (held 𝐥 x)) es
+sumFrom t (summed s ∷ es) = sumFrom t es
+
+unfoldable pub total : List Entry → Length
+total es = metres (sumFrom (num 0) es)

@@ -12,13 +12,13 @@ use Rattle.frames.specs.declared.LocalFrame.{LocalFrame}
 use Rattle.sheets.specs.declared.Value.{Value}
 use Rattle.sheets.specs.declared.Value.the-variants.{Number, Radians, Metres, Geocentric, Geodetic, Vector, Frame}
 use Rattle.sheets.specs.Text.{Word}
-use Rattle.sheets.specs.Trees.{Expr, Exprs, word-expr, num-expr, form-expr, nil, _▸_, Line, let-line, show-line, Head, wgs84, custom, Sheet, Numbered, numbered}
+use Rattle.sheets.specs.Trees.{Expr, Exprs, word-expr, num-expr, form-expr, nil, _▸_, Line, let-line, show-line, total-line, Head, wgs84, custom, Sheet, Numbered, numbered}
 use Rattle.sheets.specs.Table.{on, table}
 use Rattle.sheets.specs.Lookup.{Hit, find}
 use Rattle.sheets.specs.Names.{Known, givenOn, lookup, readingWords}
 use Rattle.sheets.specs.Scopes.{Scope, opened, give}
 use Rattle.sheets.specs.Limits.{numValue, inLimit}
-use Rattle.sheets.specs.Entries.{Entry, shown}
+use Rattle.sheets.specs.Entries.{Entry, shown, summed, total}
 use Rattle.sheets.specs.Refusals.{Stop, limit, centre, Checked, fine, bad}
 
 -- what a step comes to, with the frames that it made: it goes on with a result, refusal 7 or 8 stops it, or it sticks
@@ -102,13 +102,15 @@ pub record State : Type 0 where
 abbrev pub rescoped : State → Checked (Scope Value) → Out State
 rescoped s c = then (orSticks c) (λ d. goes [] (record { ellipsoid = s .ellipsoid; scope = d; entries = s .entries }))
 
-abbrev pub write : ℕ → State → Word → Value → State
-write i s w x = record { ellipsoid = s .ellipsoid; scope = s .scope; entries = s .entries ++ (shown i w x ∷ []) }
+-- one output line more
+abbrev pub write : State → Entry → State
+write s e = record { ellipsoid = s .ellipsoid; scope = s .scope; entries = s .entries ++ (e ∷ []) }
 
--- line i: a let's expression is read before its name is given
+-- line i: a let's expression is read before its name is given; a total's sum is tested as an l
 unfoldable pub step : ℕ → State → Line → Out State
 step i s (let-line w x) = then (eval x (s .ellipsoid) (s .scope .known)) (λ y. rescoped s (give (givenOn i w y) (s .scope)))
-step i s (show-line w) = then (meet (lookup w (s .scope .known))) (λ y. goes [] (write i s w y))
+step i s (show-line w) = then (meet (lookup w (s .scope .known))) (λ y. goes [] (write s (shown i w y)))
+step i s total-line = then (met (Metres (total (s .entries)))) (λ y. goes [] (write s (summed (total (s .entries)))))
 
 -- ---- a sheet
 

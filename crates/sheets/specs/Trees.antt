@@ -36,10 +36,11 @@ pub data Head : Type 0 where
   wgs84 : Head
   custom : Num → Num → Head
 
--- every other line
+-- every other line; the total is document 02's, request Two
 pub data Line : Type 0 where
   let-line : Word → Expr → Line
   show-line : Word → Line
+  total-line : Line
 
 pub record Sheet : Type 0 where
   pub head : Head

@@ -8,6 +8,7 @@ use sheets::reader::form::form;
 use sheets::reader::head::HeadRead;
 use sheets::reader::head::head;
 use sheets::reader::lines::LineHead;
+use sheets::reader::lines::WholeLine;
 use sheets::reader::lines::line_end;
 use sheets::reader::lines::line_head;
 use test_cases::print::decimal;
@@ -64,6 +65,17 @@ fn first_line(s: &[u8]) -> usize {
     }
 }
 
+// A line that is read whole.
+fn whole(line: WholeLine) {
+    match line {
+        WholeLine::Show(name) => {
+            put(b" show ");
+            word(name.code);
+        }
+        WholeLine::Total => put(b" total"),
+    }
+}
+
 // Another line: the place of the next one.
 fn other_line(s: &[u8], at: usize) -> usize {
     decimal(at);
@@ -76,10 +88,7 @@ fn other_line(s: &[u8], at: usize) -> usize {
             put(b" ");
             tree(s, value, 11);
         }
-        LineHead::Show(name, _) => {
-            put(b" show ");
-            word(name.code);
-        }
+        LineHead::Whole(line, _) => whole(line),
     }
     put(b"\n");
     let r = line_end(s, at);

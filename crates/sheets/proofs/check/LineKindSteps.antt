@@ -1,18 +1,18 @@
--- A line of the check's walk, a step at a time: a law for each way out of `is_barred`, `known_kind`, `let_kind`, `short_kind` and `line_kind`. Assumes nothing.
+-- A line of the check's walk, a step at a time: a law for each way out of `is_barred`, `known_kind`, `whole_kind`, `let_kind`, `short_kind` and `line_kind`. Assumes nothing.
 use Prim.Native.Nat.{ℕ, _+_}
 use native.Mathlib.Omega.{arith}
-use mathlib.Core.Path.{_≡_, refl, sym, ap, _∙_}
+use mathlib.Core.Path.{_≡_, refl, sym, ap, _∙_, subst}
 use mathlib.Core.Bool.{Bool, true, false, _||_}
 use mathlib.Core.List.{List, [], _∷_}
 use mathlib.Core.Option.{Option, none, some}
 use lib.Dec.{leb}
 use mir.Val.{hasKey}
 use Rattle.sheets.specs.Text.{Word}
-use Rattle.sheets.specs.Trees.{Line, let-line, show-line}
+use Rattle.sheets.specs.Trees.{Line, let-line, show-line, total-line}
 use Rattle.sheets.specs.Grammar.{IsWord}
-use Rattle.sheets.specs.code.reader.Codes.{codeOf}
+use Rattle.sheets.specs.code.reader.Codes.{codeFrom, codeOf}
 use Rattle.sheets.specs.code.reader.Reader.{Got, none as noGot, got, readExpr, orElse, nothing, closing, limit, let-word, rest, readLine}
-use Rattle.sheets.specs.code.reader.Views.{closed}
+use Rattle.sheets.specs.code.reader.Views.{closed, WholeAt}
 use Rattle.sheets.specs.Kinds.{Kind, kindCode}
 use Rattle.sheets.specs.Table.{table, when}
 use Rattle.sheets.specs.Lookup.{sameWord, opens}
@@ -22,10 +22,12 @@ use Rattle.sheets.specs.code.rows.KindCodes.{rowCodes}
 use Rattle.sheets.specs.Refusals.{fault, refusalNumber, Checked, fine, bad, thenᶜ}
 use Rattle.sheets.specs.Check.{kindOfExpr, lineᶜ}
 use Rattle.sheets.specs.declared.reader.expr.Read.{Read}
+use Rattle.sheets.specs.declared.reader.lines.NameAt.{NameAt}
+use Rattle.sheets.specs.declared.reader.lines.WholeLine.{WholeLine}
 use Rattle.sheets.proofs.reader.ReaderLaws.{then-got}
 use Rattle.sheets.proofs.reader.Inverse.{then-read, closing-read, limit-read}
 use Rattle.sheets.proofs.reader.PieceSteps.{closing-got}
-use Rattle.sheets.specs.code.check.Walking.{kindFound, Standing, kindSaid, ExprHas, lineWord, lineSaid, LineHas, WordHas, shortKind, BarredWord}
+use Rattle.sheets.specs.code.check.Walking.{kindFound, Standing, kindSaid, ExprHas, lineWord, lineSaid, LineHas, WordHas, WholeHas, shortKind, BarredWord}
 use Rattle.sheets.specs.declared.check.kind_walk.KindRead.{KindRead}
 use Rattle.sheets.specs.declared.check.admit.LineKind.{LineKind}
 use Rattle.sheets.proofs.rows.KindRowLaws.{opens-is}
@@ -105,6 +107,22 @@ module _ (words codes newest : List ℕ) (i : ℕ) (c : Scope Kind) (st : Standi
       read = λ v k m e. let en : next ≡ m = cc in (show-line w, ap (got (show-line w)) en);
     };
   }
+
+-- ---- a line that is read whole
+
+pub whole-show : (line : WholeLine) (name : NameAt) → line ≡ WholeLine.Show name → (next i : ℕ) (c : Scope Kind) (r : LineKind) → WordHas (name .code) (λ w. got (show-line w) next) i c r → WholeHas line next i c r
+whole-show line name e next i c r h = rw e record {
+  is = λ at l (w, hw, en, el). subst (λ l. LineHas (got l next) i c r) (sym el) (h .is w hw (ap (λ (z : NameAt). z .code) (sym en)));
+}
+
+pub whole-total : (line : WholeLine) → line ≡ WholeLine.Total → (next i : ℕ) (c : Scope Kind) → WholeHas line next i c (LineKind.Is 0 2 next)
+unfolding lineᶜ lineSaid codeFrom
+whole-total line e next i c = rw e record {
+  is = λ at l el. subst (λ l. LineHas (got l next) i c (LineKind.Is 0 2 next)) (sym el) (record {
+    is = λ l n e. let en : next ≡ n = cc in let ek : total-line ≡ l = cc in rw (← ek, ← en) refl;
+    read = λ w k n e. let en : next ≡ n = cc in (total-line, ap (got total-line) en);
+  });
+}
 
 -- ---- a let from its expression on: q is what the expression came to, t whether the word cannot be given, c what the code read of `)` and LF
 
@@ -215,8 +233,12 @@ short-line at o i d r h = record {
         go true h e = let i : n ≡ m = cc in (e, ap (λ m. leb m (at + 200)) i ∙ h)
         go false h e = not-line 3 c k n e
 
--- ---- a line, whose word has this code: what is left of it comes to r
+-- ---- a line: what is left of it comes to r; a let, whose word has this code, and a line that is read whole
 
 pub line-word : (s : List ℕ) (at i : ℕ) (d : Scope Kind) (code : ℕ) (o : Word → Got Line) → (w : Word) × IsWord w × (codeOf w ≡ code) × (readLine s at ≡ limit at (o w))
     → (r : LineKind) → WordHas code o i d r → (q : LineKind) → q ≡ shortKind at r → LineHas (readLine s at) i d q
 line-word s at i d code o (w, hw, ec, el) r hr q eq = rw (el, eq) (short-line at (o w) i d r (hr .is w hw ec))
+
+pub line-whole : (s : List ℕ) (at i : ℕ) (d : Scope Kind) (line : WholeLine) (n : ℕ) → (l : Line) × WholeAt at line l × (readLine s at ≡ limit at (got l n))
+    → (r : LineKind) → WholeHas line n i d r → (q : LineKind) → q ≡ shortKind at r → LineHas (readLine s at) i d q
+line-whole s at i d line n (l, hl, el) r hr q eq = rw (el, eq) (short-line at (got l n) i d r (hr .is at l hl))

@@ -20,6 +20,7 @@ use Rattle.sheets.specs.Lookup.{sameWord}
 use Rattle.sheets.specs.Names.{Known, orElse, lookup, readingWords, givenOn}
 use Rattle.sheets.specs.code.rows.KindCodes.{kindOr255}
 use Rattle.sheets.specs.Check.{readingKinds}
+use Rattle.sheets.proofs.reader.CodeLaws.{code-none}
 use Rattle.sheets.proofs.check.ReadingLaws.{codesOf, AreWords, readingCodes, readings-are}
 use Rattle.sheets.proofs.check.KindExact.{same-word}
 use Rattle.sheets.proofs.rows.KindRowLaws.{words-agree, every, of-every}
@@ -188,3 +189,20 @@ module _ (words codes newest : List ℕ) (passed : ℕ) (ps : Known Kind) (st : 
       go : (v : Word) (b : Bool) → sameWord v w ≡ b → when b (kindCode k) (kindOr255 (lookup v ps)) ≡ kindOr255 (lookup v ps)
       go v true h = ap kindOr255 (sym e ∙ ap (λ u. lookup u ps) (sym (same-word v w (subst T (sym h) tt))))
       go v false h = refl
+
+-- a line that stands for no word
+pub stands-blank : (words codes newest : List ℕ) (passed : ℕ) (ps : Known Kind) → Stands words codes newest passed ps → length words ≡ 96 → passed < 95 → (k : ℕ)
+    → Stands (set words (passed + 1) (codeOf [])) (set codes (passed + 1) k) (set newest (codeOf [] % 512) (passed + 1)) (passed + 1) ps
+unfolding kindFrom
+stands-blank words codes newest passed ps st lw room k = record {
+  few = omega arith;
+  from = newest-more words passed newest (st .from) (omega arith) (codeOf []);
+  is = λ v hv. go v hv (passed + 1) (omega arith) (omega arith);
+}
+  where
+    go : (v : Word) → IsWord v → (i : ℕ) → i ≡ suc passed → i < 96 → kindFrom (set words i (codeOf [])) (set codes i k) i (codeOf v) ≡ kindOr255 (lookup v ps)
+    go v hv zero e h = absurd (omega arith)
+    go v hv (suc n) e h =
+        let en : n ≡ passed = omega arith in
+        rw (getD-set-same words (suc n) (codeOf []) 0 (omega arith), ne-eqb (codeOf []) (codeOf v) (code-none v hv))
+        (kept words codes (suc n) (codeOf []) k n (omega arith) (codeOf v) ∙ ap (λ m. kindFrom words codes m (codeOf v)) en ∙ st .is v hv)

@@ -1,7 +1,7 @@
 -- Two words with one code are one word: a code is the word's characters as digits 1 to 36 to the base 37. Assumes nothing.
 use Prim.Native.Nat.{ℕ, _+_, _-_, _*_, _<_}
 use native.Mathlib.Omega.{arith}
-use mathlib.Core.Path.{_≡_, refl, sym, ap, _∙_}
+use mathlib.Core.Path.{_≡_, refl, sym, ap, _∙_, subst}
 use mathlib.Core.List.{List, [], _∷_, _++_, append-nil}
 use mathlib.Core.Logic.{_⊎_, inl, inr}
 use lib.ListN.{length}
@@ -73,10 +73,17 @@ pub word-chars : (w : Word) → IsWord w → Chars w
 word-chars [] h = absurd h
 word-chars (c ∷ w) h = (inl (h .0), h .1)
 
-pub code-same : (v w : Word) → IsWord v → IsWord w → codeOf v ≡ codeOf w → v ≡ w
-code-same v w hv hw e =
-    let h : onto v [] ≡ onto w [] = back-same (onto v []) (onto w []) (onto-chars v [] (word-chars v hv) tt) (onto-chars w [] (word-chars w hw) tt) (sym (code-back v []) ∙ e ∙ code-back w []) in
+code-chars : (v w : List ℕ) → Chars v → Chars w → codeOf v ≡ codeOf w → v ≡ w
+code-chars v w hv hw e =
+    let h : onto v [] ≡ onto w [] = back-same (onto v []) (onto w []) (onto-chars v [] hv tt) (onto-chars w [] hw tt) (sym (code-back v []) ∙ e ∙ code-back w []) in
     sym (append-nil v) ∙ sym (onto-onto v [] []) ∙ ap (λ z. onto z []) h ∙ onto-onto w [] [] ∙ append-nil w
+
+pub code-same : (v w : Word) → IsWord v → IsWord w → codeOf v ≡ codeOf w → v ≡ w
+code-same v w hv hw e = code-chars v w (word-chars v hv) (word-chars w hw) e
+
+-- the code that stands for no word
+pub code-none : (w : Word) → IsWord w → codeOf [] ≡ codeOf w → ⊥
+code-none w h e = subst IsWord (sym (code-chars [] w tt (word-chars w h) e)) h
 
 -- a word that the reader reads whole
 pub word-by : (w : Word) → readWord w 0 ≡ got w (length w) → IsWord w

@@ -8,7 +8,7 @@ use lib.Dec.{eqb}
 use lib.ListN.{length, length-append, getD}
 use borrow.Author.Tests.{eq-eqb, eqb-true}
 use Rattle.sheets.specs.Text.{Word, ascii, lf}
-use Rattle.sheets.specs.Trees.{Num, Expr, Exprs, word-expr, num-expr, form-expr, nil, _▸_, Line, let-line, show-line, Head, wgs84, custom}
+use Rattle.sheets.specs.Trees.{Num, Expr, Exprs, word-expr, num-expr, form-expr, nil, _▸_, Line, let-line, show-line, total-line, Head, wgs84, custom}
 use Rattle.sheets.specs.Grammar.{IsWord, IsNum, sign, point, printNum, print, printArgs, IsExpr, AreArgs, ended, IsEnded, headBracket, IsHead, printHead, lineBracket, IsLine, printLine}
 use Rattle.sheets.specs.code.reader.Codes.{letter, wordChar, codeFrom, codeOf}
 use Rattle.sheets.specs.code.reader.Reader.{Got, none, got, _then_, charsIf, chars, wordIf, readWord, readExpr, orElse, nothing, opening, spaced, closing, limit, more, first, one, two, readThe, _or_, Row, fromRows, readRows, headRows, readHead, let-word, whole, lineRows, readBegun, rest, readLine}
@@ -17,7 +17,7 @@ use Rattle.sheets.proofs.reader.Spans.{Spans, spans-append, spans-split
 use Rattle.sheets.proofs.reader.TokenLaws.{word-complete, num-complete, no-word, digit-letter}
 use Rattle.sheets.proofs.reader.ExprLaws.{args-stop}
 use Rattle.sheets.proofs.reader.CodeLaws.{code-same, word-by}
-use Rattle.sheets.proofs.reader.PieceLaws.{limit-sound, OpenAt, open-sound, Part, word-part, num-part, expr-part, the-part, Tail, one-sound, two-sound, one-complete, two-complete}
+use Rattle.sheets.proofs.reader.PieceLaws.{limit-sound, OpenAt, open-sound, Part, word-part, num-part, expr-part, the-part, Tail, bare-sound, one-sound, two-sound, bare-complete, one-complete, two-complete}
 
 infixr 5 _&_
 -- ---- rows
@@ -180,7 +180,7 @@ line-is s at = ap (limit at) (go (opening s at))
     go none = refl
     go (got k n) = rows-finish rest lineRows (codeOf k) s n
 
--- a let, and a line of one part
+-- a let, a line of no part, and one of one part
 let-two : (s : List ℕ) (at : ℕ) → (first readWord let-word s at then rest s) ≡ two readWord (readExpr 11) let-line s at
 unfolding more spaced rest orElse _then_
 let-two s at = go (spaced (readWord s) s at)
@@ -193,17 +193,21 @@ let-two s at = go (spaced (readWord s) s at)
     go none = refl
     go (got w n) = next w n (eqb (getD s n 0) 32)
 
+whole-bare : (l : Line) (s : List ℕ) (at : ℕ) → (closing (whole l) s at then rest s) ≡ closing l s at
+unfolding mapped rest _then_
+whole-bare l s at = ap (λ o. o then rest s) (closing-mapped (whole l) s at) ∙ ends (closing tt s at) ∙ sym (closing-mapped l s at)
+  where
+    ends : (c : Got (Unit {0})) → (mapped (λ u. whole l) c then rest s) ≡ mapped (λ u. l) c
+    ends none = refl
+    ends (got u n) = refl
+
 whole-one : {B : Type 0} (f : List ℕ → ℕ → Got B) (line : B → Line) (s : List ℕ) (at : ℕ) → (one f (λ v. whole (line v)) s at then rest s) ≡ one f line s at
-unfolding more mapped rest _then_
+unfolding more _then_
 whole-one {B} f line s at = go (spaced (f s) s at)
   where
-    ends : (l : Line) (c : Got (Unit {0})) → (mapped (λ u. whole l) c then rest s) ≡ mapped (λ u. l) c
-    ends l none = refl
-    ends l (got u n) = refl
-
     go : (o : Got B) → ((o then (λ v n. closing (whole (line v)) s n)) then rest s) ≡ (o then (λ v n. closing (line v) s n))
     go none = refl
-    go (got v n) = ap (λ o. o then rest s) (closing-mapped (whole (line v)) s n) ∙ ends (line v) (closing tt s n) ∙ sym (closing-mapped (line v) s n)
+    go (got v n) = whole-bare (line v) s n
 
 let-sound : (s : List ℕ) (at : ℕ) → Holds (Tail (Is lineBracket (ascii "let")) 5 s at) (first readWord let-word s at then rest s)
 let-sound s at = subst (Holds (Tail (Is lineBracket (ascii "let")) 5 s at)) (sym (let-two s at)) (two-sound word-part expr-part (Is lineBracket (ascii "let")) 3 let-line (λ w x. refl) s at)
@@ -212,17 +216,22 @@ whole-sound : {B : Type 0} {f : List ℕ → ℕ → Got B} (b : Part f) (k : Wo
     → (s : List ℕ) (at : ℕ) → Holds (Tail (Is lineBracket k) 5 s at) (one f (λ v. whole (line v)) s at then rest s)
 whole-sound {B} {f} b k line h s at = subst (Holds (Tail (Is lineBracket k) 5 s at)) (sym (whole-one f line s at)) (one-sound b (Is lineBracket k) 4 line h s at)
 
+bare-whole-sound : (k : Word) (l : Line) → Is lineBracket k nil l → (s : List ℕ) (at : ℕ) → Holds (Tail (Is lineBracket k) 5 s at) (closing (whole l) s at then rest s)
+bare-whole-sound k l h s at = subst (Holds (Tail (Is lineBracket k) 5 s at)) (sym (whole-bare l s at)) (bare-sound (Is lineBracket k) 5 l h s at)
+
 line-rows : AreRows lineBracket (finished rest lineRows)
 unfolding lineRows readWord wordIf chars charsIf letter wordChar
 line-rows =
     (word-by (ascii "let") refl, let-sound)
     & (word-by (ascii "show") refl, whole-sound word-part (ascii "show") show-line (λ w. refl))
+    & (word-by (ascii "total") refl, bare-whole-sound (ascii "total") total-line refl)
     & tt
 
 line-reads : (s : List ℕ) (l : Line) → Reads (finished rest lineRows) s (lineBracket l) l
 unfolding fromRows lineRows orElse codeFrom wordChar
 line-reads s (let-line w x) = λ i m p h e. let-two s i ∙ two-complete word-part expr-part let-line s w x i m p (h .0) (h .1 .0) e
 line-reads s (show-line w) = λ i m p h e. whole-one readWord show-line s i ∙ one-complete word-part show-line s w i m p (h .0) e
+line-reads s total-line = λ i m p h e. whole-bare total-line s i ∙ bare-complete s total-line i m p e
 
 abbrev pub LineStands : List ℕ → ℕ → Line → ℕ → Type 0
 LineStands s at l n = Stands lineBracket s at l n

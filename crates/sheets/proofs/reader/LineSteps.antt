@@ -8,12 +8,12 @@ use lib.Dec.{eqb, leb}
 use lib.ListN.{length, getD}
 use borrow.Author.Tests.{ne-eqb, le-leb, lt-leb, leb-true, leb-false}
 use Rattle.sheets.specs.Text.{Word, ascii}
-use Rattle.sheets.specs.Trees.{Line, let-line, show-line}
+use Rattle.sheets.specs.Trees.{Line, let-line, show-line, total-line}
 use Rattle.sheets.specs.Grammar.{IsWord}
 use Rattle.sheets.specs.code.reader.Codes.{letter, wordChar, codeFrom, codeOf}
-use Rattle.sheets.specs.code.reader.Reader.{Got, none, got, _then_, charsIf, chars, wordIf, readWord, readExpr, orElse, nothing, opening, spaced, limit, more, first, one, fromRows, readRows, Begun, let-word, whole, lineRows, readBegun, rest, readLine}
-use Rattle.sheets.specs.code.reader.Views.{place, coded, closed, shortEnd, nameAt, namedAt, behind, lineHead}
-use Rattle.sheets.proofs.reader.ReaderLaws.{then-got, mapped}
+use Rattle.sheets.specs.code.reader.Reader.{Got, none, got, _then_, charsIf, chars, wordIf, readWord, readExpr, orElse, nothing, opening, spaced, closing, limit, more, first, one, fromRows, readRows, Begun, let-word, whole, lineRows, readBegun, rest, readLine}
+use Rattle.sheets.specs.code.reader.Views.{place, coded, closed, shortEnd, nameAt, namedAt, behind, lineHead, WholeAt}
+use Rattle.sheets.proofs.reader.ReaderLaws.{then-got, mapped, closing-mapped}
 use Rattle.sheets.proofs.reader.Spans.{Holds, holds-none, holds-then, holds-at, holds-or, holds-map, spans-end}
 use Rattle.sheets.proofs.reader.TokenLaws.{WordAt, word-sound, word-spans}
 use Rattle.sheets.proofs.reader.CodeLaws.{code-same, word-by}
@@ -25,6 +25,7 @@ use Rattle.sheets.specs.declared.reader.bytes.WordRead.{WordRead}
 use Rattle.sheets.specs.declared.reader.expr.Read.{Read}
 use Rattle.sheets.specs.declared.reader.lines.NameAt.{NameAt}
 use Rattle.sheets.specs.declared.reader.lines.NameRead.{NameRead}
+use Rattle.sheets.specs.declared.reader.lines.WholeLine.{WholeLine}
 use Rattle.sheets.specs.declared.reader.lines.LineHead.{LineHead}
 
 -- ---- a space, a word, and what follows it
@@ -50,60 +51,51 @@ module _ (s : List ℕ) (at : ℕ) (r : WordRead) (er : r ≡ coded (spaced (rea
 
 -- ---- the head of a line
 
--- it holds a WORD, and a let is never whole
-unfoldable Headed : Begun → ℕ → Type 0
-Headed (let-word w) n = IsWord w
-Headed (whole (show-line w)) n = IsWord w
-Headed (whole (let-line w x)) n = ⊥
+-- what `line_head` answers of what is begun at a place: of a let its word, which is a WORD, and of any other line what the code has of it
+unfoldable Begins : ℕ → Begun → ℕ → Type 0
+Begins at (let-word w) n = IsWord w
+Begins at (whole l) n = (y : WholeLine) × (lineHead at (got (whole l) n) ≡ LineHead.Whole y n) × WholeAt at y l
 
-word-headed : (f : Word → List ℕ → ℕ → Got Begun) (s : List ℕ) → ((w : Word) (n : ℕ) → IsWord w → Holds Headed (f w s n)) → (at : ℕ) → Holds Headed (more readWord f s at)
+word-begins : (at : ℕ) (f : Word → List ℕ → ℕ → Got Begun) (s : List ℕ) → ((w : Word) (n : ℕ) → IsWord w → Holds (Begins at) (f w s n)) → (n : ℕ) → Holds (Begins at) (more readWord f s n)
 unfolding more spaced
-word-headed f s h at =
-    holds-then (λ w n. IsWord w) Headed (spaced (readWord s) s at) _
-    (holds-or (λ w n. IsWord w) (eqb (getD s at 0) 32) (λ n. readWord s (n + 1)) nothing at
-    (λ e. holds-map (WordAt s (at + 1)) (λ w n. IsWord w) (readWord s (at + 1)) (λ w n p. p .1) (word-sound s (at + 1)))
+word-begins at f s h n =
+    holds-then (λ w n. IsWord w) (Begins at) (spaced (readWord s) s n) _
+    (holds-or (λ w n. IsWord w) (eqb (getD s n 0) 32) (λ n. readWord s (n + 1)) nothing n
+    (λ e. holds-map (WordAt s (n + 1)) (λ w n. IsWord w) (readWord s (n + 1)) (λ w n p. p .1) (word-sound s (n + 1)))
     (λ e. holds-none (λ w n. IsWord w)))
     h
 
-begun-headed : (s : List ℕ) (at : ℕ) → Holds Headed (readBegun s at)
-unfolding readBegun readRows fromRows lineRows Headed
-begun-headed s at =
-    holds-then (OpenAt s at) Headed (opening s at) _ (open-sound s at) (λ k n p.
-    holds-or Headed (eqb (codeOf k) (codeOf (ascii "let"))) _ _ n (λ e. word-headed _ s (λ w m h. space-holds Headed (let-word w) s m (λ i. h)) n) (λ e.
-    holds-or Headed (eqb (codeOf k) (codeOf (ascii "show"))) _ _ n (λ e. word-headed _ s (λ w m h. closing-holds Headed (whole (show-line w)) s m (λ i. h)) n) (λ e.
-    holds-none Headed)))
+begun-begins : (s : List ℕ) (at : ℕ) → Holds (Begins at) (readBegun s at)
+unfolding readBegun readRows fromRows lineRows Begins lineHead
+begun-begins s at =
+    holds-then (OpenAt s at) (Begins at) (opening s at) _ (open-sound s at) (λ k n p.
+    holds-or (Begins at) (eqb (codeOf k) (codeOf (ascii "let"))) _ _ n (λ e. word-begins at _ s (λ w m h. space-holds (Begins at) (let-word w) s m (λ i. h)) n) (λ e.
+    holds-or (Begins at) (eqb (codeOf k) (codeOf (ascii "show"))) _ _ n (λ e. word-begins at _ s (λ w m h. closing-holds (Begins at) (whole (show-line w)) s m (λ i. (WholeLine.Show (nameAt w (behind "show" at)), refl, (w, h, refl, refl)))) n) (λ e.
+    holds-or (Begins at) (eqb (codeOf k) (codeOf (ascii "total"))) _ _ n (λ e. closing-holds (Begins at) (whole total-line) s n (λ i. (WholeLine.Total, refl, refl))) (λ e.
+    holds-none (Begins at)))))
 
 -- what an answer of `line_head` says of the line that is read at a place
 abbrev Says : List ℕ → ℕ → Got Line → LineHead → Type 0
 Says s at o LineHead.Bad = o ≡ none
 Says s at o (LineHead.Let name n) = (w : Word) × IsWord w × (codeOf w ≡ name .code) × (o ≡ limit at (rest s (let-word w) n))
-Says s at o (LineHead.Show name n) = (w : Word) × IsWord w × (codeOf w ≡ name .code) × (o ≡ limit at (rest s (whole (show-line w)) n))
+Says s at o (LineHead.Whole y n) = (l : Line) × WholeAt at y l × (o ≡ limit at (got l n))
 
 pub head-says : (s : List ℕ) (at : ℕ) (r : LineHead) → r ≡ lineHead at (readBegun s at) → (q : LineHead) → r ≡ q → Says s at (readLine s at) q
-unfolding readLine lineHead Headed Holds limit _then_
-head-says s at r er q h = subst (Says s at (readLine s at)) (sym er ∙ h) (go (readBegun s at) (begun-headed s at))
+unfolding readLine lineHead Begins Holds limit rest _then_
+head-says s at r er q h = subst (Says s at (readLine s at)) (sym er ∙ h) (go (readBegun s at) (begun-begins s at))
   where
-    go : (o : Got Begun) → Holds Headed o → Says s at (limit at (o then rest s)) (lineHead at o)
+    go : (o : Got Begun) → Holds (Begins at) o → Says s at (limit at (o then rest s)) (lineHead at o)
     go none t = refl
     go (got (let-word w) n) t = (w, t, refl, refl)
-    go (got (whole (show-line w)) n) t = (w, t, refl, refl)
-    go (got (whole (let-line w x)) n) t = absurd t
-
--- of a show, where its word stands too
-pub show-says : (s : List ℕ) (at : ℕ) (r : LineHead) → r ≡ lineHead at (readBegun s at) → (y : NameAt) (n : ℕ) → r ≡ LineHead.Show y n → (w : Word) × (y ≡ nameAt w (behind "show" at)) × (readLine s at ≡ limit at (got (show-line w) n))
-unfolding readLine lineHead rest _then_
-show-says s at r er y n h = go (readBegun s at) (sym er ∙ h)
-  where
-    go : (o : Got Begun) → lineHead at o ≡ LineHead.Show y n → (w : Word) × (y ≡ nameAt w (behind "show" at)) × (limit at (o then rest s) ≡ limit at (got (show-line w) n))
-    go none e = let z : _≡_ {A = ℕ} 0 1 = cc in absurd (omega arith)
-    go (got (let-word w) m) e = let z : _≡_ {A = ℕ} 0 1 = cc in absurd (omega arith)
-    go (got (whole (show-line w)) m) e =
-        let i : y ≡ nameAt w (behind "show" at) = cc in
-        let j : m ≡ n = cc in
-        (w, i, ap (λ k. limit at (got (show-line w) k)) j)
-    go (got (whole (let-line w x)) m) e = let z : _≡_ {A = ℕ} 0 1 = cc in absurd (omega arith)
+    go (got (whole l) n) (y, e, t) = subst (Says s at (limit at (got l n))) (sym e) (l, t, refl)
 
 -- ---- a line that a word opens
+
+-- the answer for what was read
+abbrev toldBy : {B : Type 0} → (B → ℕ → LineHead) → Got B → LineHead
+toldBy f none = LineHead.Bad
+toldBy f (got v m) = f v m
+
 module _ (s : List ℕ) (at : ℕ) (r : WordRead) (er : r ≡ coded (opening s at)) where
   pub head-no-word : r ≡ WordRead.Not → LineHead.Bad ≡ lineHead at (readBegun s at)
   unfolding readBegun lineHead
@@ -121,42 +113,46 @@ module _ (s : List ℕ) (at : ℕ) (r : WordRead) (er : r ≡ coded (opening s a
         let p = holds-at (OpenAt s at) (opening s at) w n (open-sound s at) ew in
         omega (arith, spans-end s (40 ∷ w) at n (p .0), ap length (code-same w v (p .1) hv (sym ek ∙ e)))
 
-    -- a line whose head is a word, read at o: what is made of the word, and how it is told
-    pub record Worded (o : Got Word) (tell : NameAt → ℕ → LineHead) : Type 0 where
-      make : Word → Begun
-      begun : readBegun s at ≡ mapped make o
-      told : (w : Word) (m : ℕ) → lineHead at (got (make w) m) ≡ tell (nameAt w (n + 1)) m
+    -- the row of the word reads o, and the code tells it so
+    opens-by : {B : Type 0} (make : B → Begun) (f : B → ℕ → LineHead) (o : Got B) → fromRows lineRows k s n ≡ mapped make o → ((v : B) (m : ℕ) → lineHead at (got (make v) m) ≡ f v m) → lineHead at (readBegun s at) ≡ toldBy f o
+    unfolding mapped lineHead
+    opens-by {B} make f o e t = ap (lineHead at) (row-is ∙ e) ∙ go o
+      where
+        go : (o : Got B) → lineHead at (mapped make o) ≡ toldBy f o
+        go none = refl
+        go (got v m) = t v m
 
-    pub opens-let : k ≡ codeOf (ascii "let") → Worded (first readWord (λ w. w) s n) LineHead.Let
+    pub opens-let : k ≡ codeOf (ascii "let") → lineHead at (readBegun s at) ≡ toldBy (λ w m. LineHead.Let (nameAt w (n + 1)) m) (first readWord (λ w. w) s n)
     unfolding lineRows fromRows orElse codeFrom wordChar readWord wordIf chars charsIf letter lineHead
-    opens-let e = record {
-      make = let-word;
-      begun = row-is ∙ rw e (first-mapped readWord let-word s n);
-      told = λ w m. ap (λ i. LineHead.Let (nameAt w i) m) (sym (behind-is (ascii "let") (word-by (ascii "let") refl) e));
-    }
+    opens-let e = opens-by let-word _ (first readWord (λ w. w) s n) (rw e (first-mapped readWord let-word s n)) (λ w m. ap (λ i. LineHead.Let (nameAt w i) m) (sym (behind-is (ascii "let") (word-by (ascii "let") refl) e)))
 
-    pub opens-show : k ≡ codeOf (ascii "show") → Worded (one readWord (λ w. w) s n) LineHead.Show
+    pub opens-show : k ≡ codeOf (ascii "show") → lineHead at (readBegun s at) ≡ toldBy (λ w m. LineHead.Whole (WholeLine.Show (nameAt w (n + 1))) m) (one readWord (λ w. w) s n)
     unfolding lineRows fromRows orElse codeFrom wordChar readWord wordIf chars charsIf letter lineHead
-    opens-show e = record {
-      make = λ w. whole (show-line w);
-      begun = row-is ∙ rw e (one-mapped readWord (λ w. whole (show-line w)) s n);
-      told = λ w m. ap (λ i. LineHead.Show (nameAt w i) m) (sym (behind-is (ascii "show") (word-by (ascii "show") refl) e));
-    }
+    opens-show e = opens-by (λ w. whole (show-line w)) _ (one readWord (λ w. w) s n) (rw e (one-mapped readWord (λ w. whole (show-line w)) s n)) (λ w m. ap (λ i. LineHead.Whole (WholeLine.Show (nameAt w i)) m) (sym (behind-is (ascii "show") (word-by (ascii "show") refl) e)))
 
-    pub opens-none : (k ≡ codeOf (ascii "let") → ⊥) → (k ≡ codeOf (ascii "show") → ⊥) → LineHead.Bad ≡ lineHead at (readBegun s at)
+    pub opens-total : k ≡ codeOf (ascii "total") → lineHead at (readBegun s at) ≡ toldBy (λ u m. LineHead.Whole WholeLine.Total m) (closing {A = Unit {0}} tt s n)
     unfolding lineRows fromRows orElse codeFrom wordChar lineHead
-    opens-none e f = rw (row-is, ne-eqb k (codeOf (ascii "let")) e, ne-eqb k (codeOf (ascii "show")) f) refl
+    opens-total e = opens-by (λ u. whole total-line) _ (closing {A = Unit {0}} tt s n) (rw e (closing-mapped (whole total-line) s n)) (λ u m. refl)
 
-    module _ (o : Got Word) (tell : NameAt → ℕ → LineHead) (t : Worded o tell) (v : NameRead) (ev : v ≡ namedAt (n + 1) o) where
-      pub unnamed : v ≡ NameRead.Not → LineHead.Bad ≡ lineHead at (readBegun s at)
-      unfolding mapped lineHead
-      unnamed i = rw (t .begun, named-none (n + 1) o v ev i) refl
+    pub opens-none : (k ≡ codeOf (ascii "let") → ⊥) → (k ≡ codeOf (ascii "show") → ⊥) → (k ≡ codeOf (ascii "total") → ⊥) → LineHead.Bad ≡ lineHead at (readBegun s at)
+    unfolding lineRows fromRows orElse codeFrom wordChar lineHead
+    opens-none e f g = rw (row-is, ne-eqb k (codeOf (ascii "let")) e, ne-eqb k (codeOf (ascii "show")) f, ne-eqb k (codeOf (ascii "total")) g) refl
 
-      pub name-told : (y : NameAt) (m : ℕ) → v ≡ NameRead.Is y m → tell y m ≡ lineHead at (readBegun s at)
-      unfolding mapped
-      name-told y m i =
-          let (w, ew, ey) = named-got (n + 1) o v ev y m i in
-          ap (λ z. tell z m) ey ∙ sym (ap (lineHead at) (t .begun ∙ ap (mapped (t .make)) ew) ∙ t .told w m)
+-- by what the code read of o: a word, or the line's end
+module _ (x : LineHead) (n : ℕ) where
+  module _ (f : NameAt → ℕ → LineHead) (o : Got Word) (t : x ≡ toldBy (λ w m. f (nameAt w (n + 1)) m) o) (v : NameRead) (ev : v ≡ namedAt (n + 1) o) where
+    pub unnamed : v ≡ NameRead.Not → LineHead.Bad ≡ x
+    unnamed i = sym (t ∙ ap (toldBy (λ w m. f (nameAt w (n + 1)) m)) (named-none (n + 1) o v ev i))
+
+    pub name-told : (y : NameAt) (m : ℕ) → v ≡ NameRead.Is y m → f y m ≡ x
+    name-told y m i = let (w, ew, ey) = named-got (n + 1) o v ev y m i in ap (λ z. f z m) ey ∙ sym (t ∙ ap (toldBy (λ w m. f (nameAt w (n + 1)) m)) ew)
+
+  module _ (f : ℕ → LineHead) (s : List ℕ) (t : x ≡ toldBy (λ u m. f m) (closing {A = Unit {0}} tt s n)) (c : Read) (ec : c ≡ closed s n) where
+    pub unclosed : c ≡ Read.Bad → LineHead.Bad ≡ x
+    unclosed i = sym (t ∙ ap (toldBy (λ u m. f m)) (placed-none (closing tt s n) c ec i))
+
+    pub close-told : (m : ℕ) → c ≡ Read.At m → f m ≡ x
+    close-told m i = let (u, eu) = placed-got (closing tt s n) c ec m i in sym (t ∙ ap (toldBy (λ u m. f m)) eu)
 
 -- ---- the end of a line
 pub short-test : (at n : ℕ) → leb (n - 200) at ≡ leb n (at + 200)
@@ -188,9 +184,8 @@ module _ (s : List ℕ) (at : ℕ) (r : LineHead) (er : r ≡ lineHead at (readB
   unfolding place
   end-bad h = ap place (sym (head-says s at r er _ h))
 
-  pub end-show : (y : NameAt) (n : ℕ) → r ≡ LineHead.Show y n → (v : Read) → v ≡ shortEnd at n → v ≡ place (readLine s at)
-  unfolding rest
-  end-show y n h v ev = let (w, hw, ew, e) = head-says s at r er _ h in ev ∙ short-is (show-line w) at n ∙ ap place (sym e)
+  pub end-whole : (y : WholeLine) (n : ℕ) → r ≡ LineHead.Whole y n → (v : Read) → v ≡ shortEnd at n → v ≡ place (readLine s at)
+  end-whole y n h v ev = let (l, t, e) = head-says s at r er _ h in ev ∙ short-is l at n ∙ ap place (sym e)
 
   module _ (y : NameAt) (n : ℕ) (h : r ≡ LineHead.Let y n) (x : Read) (ex : x ≡ place (readExpr 11 s n)) where
     pub end-no-expr : x ≡ Read.Bad → Read.Bad ≡ place (readLine s at)

@@ -1,16 +1,20 @@
--- The places of what was shown: at the start, after a let, after a show. Assumes nothing.
+-- What is kept of what was shown, its places and its sum of lengths: at the start, after a let, a show, a total. Assumes nothing.
 use Prim.Native.Nat.{ℕ, suc, _+_, _*_, _<_, _≤_}
 use native.Mathlib.Omega.{arith}
 use mathlib.Core.Path.{_≡_, refl, sym, ap, subst, _∙_}
 use mathlib.Core.List.{List, [], _∷_, _++_}
-use lib.ListN.{length, getD, set, replicate, length-set, length-append, length-replicate}
+use lib.ListN.{length, getD, set, replicate, length-set, length-replicate}
 use lib.Seq.{getD-set-same, getD-set-other}
 use lib.Ieee.{Float}
+use Rattle.numbers.specs.Ops.{num}
+use Rattle.numbers.specs.Lengths.{metres}
+use Rattle.numbers.specs.declared.Length.{Length}
 use Rattle.sheets.specs.declared.Value.{Value}
 use Rattle.sheets.specs.Text.{Word}
-use Rattle.sheets.specs.Entries.{Entry, shown}
+use Rattle.sheets.specs.Letters.{𝐥, held}
+use Rattle.sheets.specs.Entries.{Entry, shown, summed, plus, sumFrom, total}
 use Rattle.sheets.specs.code.run.Floats.{KeptBelow}
-use Rattle.sheets.specs.code.run.Keeping.{keep, EntryKept, KeptFrom, EntriesKept}
+use Rattle.sheets.specs.code.run.Keeping.{keep, EntryKept, shows, KeptFrom, EntriesKept}
 use Rattle.sheets.proofs.run.FloatLaws.{kept-lies}
 
 -- ---- one place more
@@ -32,18 +36,32 @@ module _ (js : List ℕ) (j : ℕ) where
 
 -- where each entry's place stays kept
 kept-as : (i : ℕ) (es : List Entry) (js kinds : List ℕ) (f : List Float) (n : ℕ) (js′ kinds′ : List ℕ) (f′ : List Float) (n′ : ℕ)
-    → ((k : ℕ) → i ≤ k → k < i + length es → getD js′ k 0 ≡ getD js k 0) → ((j : ℕ) (x : Value) → EntryKept kinds f n j x → EntryKept kinds′ f′ n′ j x) → KeptFrom i es js kinds f n → KeptFrom i es js′ kinds′ f′ n′
+    → ((k : ℕ) → i ≤ k → k < i + shows es → getD js′ k 0 ≡ getD js k 0) → ((j : ℕ) (x : Value) → EntryKept kinds f n j x → EntryKept kinds′ f′ n′ j x) → KeptFrom i es js kinds f n → KeptFrom i es js′ kinds′ f′ n′
 unfolding KeptFrom
 kept-as i [] js kinds f n js′ kinds′ f′ n′ same more h = tt
 kept-as i (shown l w x ∷ es) js kinds f n js′ kinds′ f′ n′ same more h = (
   subst (λ j. EntryKept kinds′ f′ n′ j x) (sym (same i (omega arith) (omega arith))) (more _ x (h .0)),
   kept-as (suc i) es js kinds f n js′ kinds′ f′ n′ (λ k a b. same k (omega arith) (omega arith)) more (h .1),
 )
+kept-as i (summed t ∷ es) js kinds f n js′ kinds′ f′ n′ same more h = kept-as i es js kinds f n js′ kinds′ f′ n′ same more h
 
-kept-last : (i : ℕ) (es : List Entry) (js kinds : List ℕ) (f : List Float) (n l : ℕ) (w : Word) (x : Value) → KeptFrom i es js kinds f n → EntryKept kinds f n (getD js (i + length es) 0) x → KeptFrom i (es ++ (shown l w x ∷ [])) js kinds f n
+kept-last : (i : ℕ) (es : List Entry) (js kinds : List ℕ) (f : List Float) (n l : ℕ) (w : Word) (x : Value) → KeptFrom i es js kinds f n → EntryKept kinds f n (getD js (i + shows es) 0) x → KeptFrom i (es ++ (shown l w x ∷ [])) js kinds f n
 unfolding KeptFrom
 kept-last i [] js kinds f n l w x h k = (subst (λ m. EntryKept kinds f n (getD js m 0) x) (omega arith) k, tt)
 kept-last i (shown m v y ∷ es) js kinds f n l w x h k = (h .0, kept-last (suc i) es js kinds f n l w x (h .1) (subst (λ m. EntryKept kinds f n (getD js m 0) x) (omega arith) k))
+kept-last i (summed t ∷ es) js kinds f n l w x h k = kept-last i es js kinds f n l w x h k
+
+kept-total : (i : ℕ) (es : List Entry) (js kinds : List ℕ) (f : List Float) (n : ℕ) (t : Length) → KeptFrom i es js kinds f n → KeptFrom i (es ++ (summed t ∷ [])) js kinds f n
+unfolding KeptFrom
+kept-total i [] js kinds f n t h = tt
+kept-total i (shown l w x ∷ es) js kinds f n t h = (h .0, kept-total (suc i) es js kinds f n t (h .1))
+kept-total i (summed u ∷ es) js kinds f n t h = kept-total i es js kinds f n t h
+
+-- how many shows there are, with one entry more
+pub shows-append : (es ds : List Entry) → shows (es ++ ds) ≡ shows es + shows ds
+shows-append [] ds = omega arith
+shows-append (shown l w x ∷ es) ds = omega (arith, shows-append es ds)
+shows-append (summed t ∷ es) ds = shows-append es ds
 
 pub entries-none : (f : List Float) → EntriesKept [] (replicate 96 0) (replicate 96 0) f 0
 unfolding KeptFrom
@@ -64,12 +82,41 @@ module _ (es : List Entry) (js kinds : List ℕ) (f : List Float) (n : ℕ) (h :
   }
 
   -- a show keeps the place of what it shows
-  pub entries-show : length es ≤ 94 → (i : ℕ) (w : Word) (x : Value) (j : ℕ) → EntryKept kinds f n j x → EntriesKept (es ++ (shown i w x ∷ [])) (keep js j) kinds f n
+  pub entries-show : shows es ≤ 94 → (i : ℕ) (w : Word) (x : Value) (j : ℕ) → EntryKept kinds f n j x → EntriesKept (es ++ (shown i w x ∷ [])) (keep js j) kinds f n
   entries-show few i w x j e = record {
     size = keep-size js j ∙ h .size;
-    count = keep-count js j (omega (arith, h .size)) ∙ ap (λ m. m + 1) (h .count) ∙ sym (length-append es (shown i w x ∷ []));
+    count = keep-count js j (omega (arith, h .size)) ∙ omega (arith, h .count, shows-append es (shown i w x ∷ []));
     places = kept-last 1 es (keep js j) kinds f n i w x
         (kept-as 1 es js kinds f n (keep js j) kinds f n (λ k a b. keep-other js j k a (omega (arith, h .count))) (λ k y e. e) (h .places))
         (subst (λ k. EntryKept kinds f n k x) (sym (ap (λ m. getD (keep js j) m 0) (omega (arith, h .count)) ∙ keep-last js j (omega (arith, h .size, h .count)))) e);
     reading = h .reading;
   }
+
+  -- a total keeps no place
+  pub entries-total : (t : Length) → EntriesKept (es ++ (summed t ∷ [])) js kinds f n
+  entries-total t = record {
+    size = h .size;
+    count = h .count ∙ omega (arith, shows-append es (summed t ∷ []));
+    places = kept-total 1 es js kinds f n t (h .places);
+    reading = h .reading;
+  }
+
+-- ---- the sum of the lengths shown: one addition at each
+
+sum-append : (t : Float) (es ds : List Entry) → sumFrom t (es ++ ds) ≡ sumFrom (sumFrom t es) ds
+sum-append t [] ds = refl
+sum-append t (shown i w x ∷ es) ds = sum-append (plus t (held 𝐥 x)) es ds
+sum-append t (summed u ∷ es) ds = sum-append t es ds
+
+module _ (es : List Entry) (t : Float) (h : metres t ≡ total es) where
+  sum-is : t ≡ sumFrom (num 0) es
+  unfolding total
+  sum-is = ap (λ (l : Length). l .0) h
+
+  pub total-show : (i : ℕ) (w : Word) (x : Value) → metres (plus t (held 𝐥 x)) ≡ total (es ++ (shown i w x ∷ []))
+  unfolding total
+  total-show i w x = ap metres (ap (λ u. plus u (held 𝐥 x)) sum-is ∙ sym (sum-append (num 0) es (shown i w x ∷ [])))
+
+  pub total-total : (u : Length) → metres t ≡ total (es ++ (summed u ∷ []))
+  unfolding total
+  total-total u = ap metres (sum-is ∙ sym (sum-append (num 0) es (summed u ∷ [])))

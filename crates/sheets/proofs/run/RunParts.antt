@@ -1,4 +1,4 @@
--- The pieces of the run over the lines: a law for each way out of `put_readings`, `let_value`, `show_value`, `show` and `stopped`. Assumes nothing.
+-- The pieces of the run over the lines: a law for each way out of `put_readings`, `let_value` and `stopped`. Assumes nothing.
 use Prim.Native.Nat.{ℕ, _+_, _<_, _≤_}
 use native.Mathlib.Omega.{arith}
 use mathlib.Core.Path.{_≡_, refl, sym, ap, subst, _∙_}
@@ -31,7 +31,7 @@ use Rattle.sheets.specs.code.run.Known.{readingIndex, foundAt}
 use Rattle.sheets.specs.code.run.Writing.{Written, lineIf, room}
 use Rattle.sheets.specs.code.run.Keeping.{keep}
 use Rattle.sheets.specs.code.run.Evaluating.{evaluated, EvalsWith}
-use Rattle.sheets.specs.code.run.Running.{WithReadings, LetWith, ShownIf, Shown, ShownAs, stoppedAt}
+use Rattle.sheets.specs.code.run.Running.{WithReadings, LetWith, stoppedAt}
 use Rattle.sheets.proofs.reader.Inverse.{then-read, closing-read}
 use Rattle.sheets.proofs.run.KnownLaws.{getD-inside}
 use Rattle.sheets.proofs.run.EntryLaws.{keep-size, keep-count}
@@ -138,60 +138,3 @@ module _ (s : List ℕ) (at : ℕ) (e : Ellipsoid) (words kinds newest : List �
 
     pub let-unended : c ≡ Read.Bad → (q : Evaluated) → LetWith s at e words kinds newest f top q g
     let-unended en q = let-end q (λ n et. let z : _≡_ {A = ℕ} 0 1 = cc in absurd (omega arith))
-
--- ---- a show
-
-module _ (s : List ℕ) (name : NameAt) (v : Value) (j : ℕ) (js out : List ℕ) (written : ℕ) (b : Bool) (eb : b ≡ inLimit v) where
-  pub show-out : b ≡ false → ShownAs s name (some v) j js out written (Evaluated.Stops 7) js out
-  unfolding Shown ShownIf
-  show-out h = record { is = rw (← eb, h) (refl, refl, refl) }
-
-  pub show-in : b ≡ true → (js′ : List ℕ) → js′ ≡ keep js j → (kind : ℕ) → kind ≡ kindCode (kindOf v) → (m : ℕ) (d : List ℕ) → Written out written (lineIf (room s (name .from) (name .end) out written) s (name .from) (name .end) v) d m → ShownAs s name (some v) j js out written (Evaluated.Is kind m) js′ d
-  unfolding Shown ShownIf
-  show-in h js′ ej kind ek m d w = record { is = rw (← eb, h, ek) (m, refl, ej, w) }
-
--- by the word's place
-module _ (s : List ℕ) (name : NameAt) (v : Value) (f : List Float) (j : ℕ) (js out : List ℕ) (written : ℕ) where
-  module _ (z : j ≡ 0) (i : ℕ) (ei : i ≡ readingIndex (name .code)) where
-    pub show-unknown : 16 ≤ i → ShownAs s name (foundAt v f (name .code) j) j js out written Evaluated.Sticks js out
-    unfolding foundAt Shown
-    show-unknown h = rw (eq-eqb j 0 z, ← ei, le-leb 16 i h) (record { is = (refl, refl, refl) })
-
-    pub show-reading : i < 16 → (u : Value) → u ≡ Number (floatAt f i) → (r : Evaluated) (js′ d : List ℕ) → ShownAs s name (some u) j js out written r js′ d → ShownAs s name (foundAt v f (name .code) j) j js out written r js′ d
-    unfolding foundAt
-    show-reading h u eu r js′ d g = rw (eq-eqb j 0 z, ← ei, lt-leb 16 i h, ← eu) g
-
-  pub show-name : (j ≡ 0 → ⊥) → (u : Value) → u ≡ v → (r : Evaluated) (js′ d : List ℕ) → ShownAs s name (some u) j js out written r js′ d → ShownAs s name (foundAt v f (name .code) j) j js out written r js′ d
-  unfolding foundAt
-  show-name z u eu r js′ d h = rw (ne-eqb j 0 z, ← eu) h
-
--- what a show of a known word comes to
-module _ (s : List ℕ) (name : NameAt) (j : ℕ) (js out : List ℕ) (written : ℕ) (r : Evaluated) (js′ d : List ℕ) where
-  pub show-not : (o : Option Value) → ShownAs s name o j js out written r js′ d → NotIs r → (r ≡ evaluated (meet o) 0) × (d ≡ out)
-  unfolding Shown ShownIf evaluated
-  show-not none h n = (h .is .0, h .is .2)
-  show-not (some v) h n = go (inLimit v) (h .is)
-    where
-      go : (b : Bool) → ShownIf b s name v j js out written r js′ d → (r ≡ evaluated (test [] b v) 0) × (d ≡ out)
-      go true (m, er, ej, w) = not-is r _ m n er
-      go false (er, ej, ed) = (er, ed)
-
-  pub show-is : (o : Option Value) → ShownAs s name o j js out written r js′ d → (k m : ℕ) → r ≡ Evaluated.Is k m
-      → (v : Value) × (o ≡ some v) × (meet o ≡ goes [] v) × (js′ ≡ keep js j) × Written out written (lineIf (room s (name .from) (name .end) out written) s (name .from) (name .end) v) d m
-  unfolding Shown ShownIf
-  show-is none h k m e = let i = h .is .0 in let z : _≡_ {A = ℕ} 0 1 = cc in absurd (omega arith)
-  show-is (some v) h k m e = let (em, ej, w) = go (inLimit v) (h .is) in (v, refl, em, ej, w)
-    where
-      go : (b : Bool) → ShownIf b s name v j js out written r js′ d → (test [] b v ≡ goes [] v) × (js′ ≡ keep js j) × Written out written (lineIf (room s (name .from) (name .end) out written) s (name .from) (name .end) v) d m
-      go true (n, er, ej, w) = let i : n ≡ m = cc in (refl, ej, subst (Written out written _ d) i w)
-      go false (er, ej, ed) = let z : _≡_ {A = ℕ} 0 1 = cc in absurd (omega arith)
-
-  -- at most one place more is kept
-  pub shown-count : (o : Option Value) → ShownAs s name o j js out written r js′ d → length js ≡ 96 → (length js′ ≡ 96) × (getD js′ 0 0 ≤ getD js 0 0 + 1)
-  unfolding Shown ShownIf
-  shown-count none h l = rw (h .is .1) (l, omega arith)
-  shown-count (some v) h l = go (inLimit v) (h .is)
-    where
-      go : (b : Bool) → ShownIf b s name v j js out written r js′ d → (length js′ ≡ 96) × (getD js′ 0 0 ≤ getD js 0 0 + 1)
-      go true (n, er, ej, w) = rw ej (keep-size js j ∙ l, omega (arith, keep-count js j (omega (arith, l))))
-      go false (er, ej, ed) = rw ej (l, omega arith)

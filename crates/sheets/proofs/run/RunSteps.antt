@@ -9,72 +9,42 @@ use lib.ListN.{length, getD, set, replicate, length-append, length-replicate}
 use lib.Ieee.{Float, ofBits, binary64}
 use borrow.Author.Tests.{leb-true, leb-false}
 use Rattle.numbers.specs.Ops.{num, decimal}
+use Rattle.numbers.specs.Lengths.{metres}
 use Rattle.frames.specs.declared.Ellipsoid.{Ellipsoid}
 use Rattle.sheets.specs.declared.rows.value.Slot.{Slot}
-use Rattle.sheets.specs.declared.reader.lines.NameAt.{NameAt}
+use Rattle.sheets.specs.declared.reader.lines.WholeLine.{WholeLine}
 use Rattle.sheets.specs.declared.reader.lines.LineHead.{LineHead}
 use Rattle.sheets.specs.declared.answers.RunAnswer.{RunAnswer}
 use Rattle.sheets.specs.declared.Evaluated.{Evaluated}
 use Rattle.sheets.specs.Text.{Word}
-use Rattle.sheets.specs.Trees.{Expr, Line, let-line, show-line, numbered}
+use Rattle.sheets.specs.Trees.{Expr, Line, let-line, numbered}
 use Rattle.sheets.specs.Grammar.{IsWord, after as afterPhase}
 use Rattle.sheets.specs.Kinds.{kindOf, kindCode}
-use Rattle.sheets.specs.Names.{lookup, givenOn}
-use Rattle.sheets.specs.Output.{outputLine}
-use Rattle.sheets.specs.Entries.{Entry, shown as entry, entryLines}
-use Rattle.sheets.specs.Machine.{goes, then as thenᵒ, meet, eval, State, write, step, steps}
+use Rattle.sheets.specs.Names.{givenOn}
+use Rattle.sheets.specs.Entries.{entryLines, total}
+use Rattle.sheets.specs.Machine.{eval, State, step, steps}
 use Rattle.sheets.specs.Answers.{laid, Tells}
 use Rattle.sheets.specs.Claim.{Unstuck}
 use Rattle.sheets.specs.code.reader.Codes.{codeOf}
-use Rattle.sheets.specs.code.reader.Reader.{none as noGot, got, limit, let-word, rest, readBegun, readWord, readLine, formed, readLines}
+use Rattle.sheets.specs.code.reader.Reader.{none as noGot, got, limit, let-word, rest, readBegun, readLine, formed, readLines}
 use Rattle.sheets.specs.code.reader.Views.{lineHead}
 use Rattle.sheets.specs.code.check.Newest as Search
 use Rattle.sheets.specs.code.run.Floats.{Lies}
-use Rattle.sheets.specs.code.run.Known.{wordFound, foundAt, Tabled, Listed, Ready}
-use Rattle.sheets.specs.code.run.Keeping.{EntriesKept}
+use Rattle.sheets.specs.code.run.Known.{Tabled, Ready}
+use Rattle.sheets.specs.code.run.Keeping.{shows, EntriesKept}
 use Rattle.sheets.specs.code.run.Evaluating.{Answers}
-use Rattle.sheets.specs.code.run.Running.{WithReadings, LetWith, GivenAt, ShownAs, stoppedAt, Runs}
-use Rattle.sheets.proofs.reader.LineSteps.{show-says}
+use Rattle.sheets.specs.code.run.Running.{WithReadings, LetWith, GivenAt, stoppedAt, Runs}
+use Rattle.sheets.specs.code.run.Wholes.{wordNamed, WholeRuns}
+use Rattle.sheets.proofs.reader.LineSteps.{head-says}
 use Rattle.sheets.proofs.reader.Inverse.{limit-read}
-use Rattle.sheets.proofs.reader.Slices.{show-word, word-is}
 use Rattle.sheets.proofs.reader.Walks.{Step, walk-end, walk-line}
-use Rattle.sheets.proofs.run.TextBound.{line-length, word-length, entries-last}
-use Rattle.sheets.proofs.run.LineText.{line-laid}
 use Rattle.sheets.proofs.run.KnownLaws.{tabled-start, tabled-let}
-use Rattle.sheets.proofs.run.ListedLaws.{listed-start, listed-let, listed-at, found-kept}
-use Rattle.sheets.proofs.run.EntryLaws.{entries-none, entries-let, entries-show}
-use Rattle.sheets.proofs.run.RunParts.{NotIs, show-not, show-is}
+use Rattle.sheets.proofs.run.ListedLaws.{listed-start, listed-let}
+use Rattle.sheets.proofs.run.EntryLaws.{entries-none, entries-let}
+use Rattle.sheets.proofs.run.RunParts.{NotIs}
 use Rattle.sheets.proofs.run.StepLaws.{onwards, line-stops, given, let-step, answers-is}
-
--- what the code holds before a line, which stands at a place
-pub record Stage : Type 0 where
-  pub at : ℕ
-  pub line : ℕ
-  pub slots : List Slot
-  pub words : List ℕ
-  pub kinds : List ℕ
-  pub newest : List ℕ
-  pub shown : List ℕ
-  pub floats : List Float
-  pub n : ℕ
-  pub written : ℕ
-  pub out : List ℕ
-
--- the lines ls are left, and what is held stands for the machine's state; d is what was lent for the text
-record Now (s : List ℕ) (e : Ellipsoid) (rs : List Float) (d : List ℕ) (h : Stage) (ls : List Line) (st : State) : Type 0 where
-  size : length d ≡ 24576
-  left : ℕ
-  phase : ℕ
-  reads : readLines left (h .line) phase s (h .at) ≡ formed ls
-  lines : h .line + left ≡ 97
-  surface : st .ellipsoid ≡ e
-  tabled : Tabled (st .scope .known) (h .slots) (h .n) rs
-  listed : Listed (h .slots) rs (h .words) (h .kinds) (h .newest) (h .floats) (h .n)
-  kept : EntriesKept (st .entries) (h .shown) (h .kinds) (h .floats) (h .n)
-  few : length (st .entries) + 2 ≤ h .line
-  count : h .written ≡ length (entryLines (st .entries))
-  bound : h .written ≤ 223 * (h .line - 2)
-  text : h .out ≡ laid (entryLines (st .entries)) d
+use Rattle.sheets.proofs.run.Stages.{Stage, Now}
+use Rattle.sheets.proofs.run.WholeSteps.{Comes, whole-comes}
 
 -- from there on r and out′ tell what the machine comes to
 pub record RunsFrom (s : List ℕ) (e : Ellipsoid) (rs : List Float) (d : List ℕ) (h : Stage) (r : RunAnswer) (out′ : List ℕ) : Type 0 where
@@ -85,9 +55,13 @@ zeros : replicate 2940 (ofBits binary64 0) ≡ replicate 2940 (num 0)
 unfolding ofBits decimal
 zeros = ap (replicate 2940) refl
 
+zero-sum : metres (ofBits binary64 0) ≡ total []
+unfolding ofBits decimal total
+zero-sum = refl
+
 -- before line 2
 abbrev first : ℕ → Slot → List Float → List ℕ → Stage
-first at x f d = record { at = at; line = 2; slots = replicate 96 x; words = replicate 96 0; kinds = replicate 96 0; newest = replicate 512 0; shown = replicate 96 0; floats = f; n = 0; written = 0; out = d }
+first at x f d = record { at = at; line = 2; slots = replicate 96 x; words = replicate 96 0; kinds = replicate 96 0; newest = replicate 512 0; shown = replicate 96 0; sum = ofBits binary64 0; floats = f; n = 0; written = 0; out = d }
 
 pub runs-start : (s : List ℕ) (at : ℕ) (e : Ellipsoid) (rs : List Float) (d : List ℕ) (x : Slot) (f : List Float) → WithReadings rs (replicate 2940 (ofBits binary64 0)) f
     → (r : RunAnswer) (out′ : List ℕ) → RunsFrom s e rs d (first at x f d) r out′ → Runs s at e rs d r out′
@@ -103,7 +77,8 @@ runs-start s at e rs d x f hf r out′ h = record {
         tabled = subst (λ ps. Tabled ps (replicate 96 x) 0 rs) (sym ek) (tabled-start rs _);
         listed = listed-start _ rs f (length-replicate 96 x) (hf .is zeros .0) (hf .is zeros .1);
         kept = subst (λ es. EntriesKept es (replicate 96 0) (replicate 96 0) f 0) (sym en) (entries-none f);
-        few = omega (arith, ap (λ (es : List Entry). length es) en);
+        sums = zero-sum ∙ ap total (sym en);
+        few = omega (arith, ap shows en);
         count = ap (λ es. length (entryLines es)) (sym en);
         bound = omega arith;
         text = ap (λ es. laid (entryLines es) d) (sym en);
@@ -166,7 +141,7 @@ module _ {s : List ℕ} {e : Ellipsoid} {rs : List Float} {d : List ℕ} {h : St
 
       -- the name's slot is filled
       pub runs-let : (kind next : ℕ) → r ≡ Evaluated.Is kind next → h .n < 95 → (y : Slot) (words kinds newest : List ℕ) → GivenAt code kind (h .n + 1) g (h .words) (h .kinds) (h .newest) y words kinds newest → (q : RunAnswer) (out′ : List ℕ)
-          → RunsFrom s e rs d (record { at = next; line = h .line + 1; slots = set (h .slots) (h .n + 1) y; words = words; kinds = kinds; newest = newest; shown = h .shown; floats = g; n = h .n + 1; written = h .written; out = h .out }) q out′
+          → RunsFrom s e rs d (record { at = next; line = h .line + 1; slots = set (h .slots) (h .n + 1) y; words = words; kinds = kinds; newest = newest; shown = h .shown; sum = h .sum; floats = g; n = h .n + 1; written = h .written; out = h .out }) q out′
           → RunsFrom s e rs d h q out′
       runs-let kind next er few y words kinds newest hg q out′ hr = by-line q out′ (λ ls st now sp un.
           let (x, ex, an) = let-here ls st now (sp .line) (sp .next) (sp .stands) in
@@ -185,59 +160,49 @@ module _ {s : List ℕ} {e : Ellipsoid} {rs : List Float} {d : List ℕ} {h : St
                 (tabled-let (st .scope .known) (h .slots) (h .n) rs (now .tabled) (omega (arith, few, now .listed .slots)) (says .0) (says .1) v y (ew ∙ sym (says .2)) eu (h .line));
             listed = rw (hg .words-are, hg .kinds-are) (listed-let (h .slots) rs (h .words) (h .kinds) (h .newest) (h .floats) (h .n) (now .listed) few y code kind ew (ek ∙ ap (λ z. kindCode (kindOf z)) (sym eu)) (21 * (h .n + 1)) (omega arith) g (an .kept) (subst (Lies g (21 * (h .n + 1))) (sym eu) lies) newest (hg .newest-are));
             kept = rw (hg .kinds-are) (entries-let (st .entries) (h .shown) (h .kinds) (h .floats) (h .n) (now .kept) kind g (an .kept));
+            sums = now .sums;
             few = omega (arith, now .few);
             count = now .count;
             bound = omega (arith, now .bound);
             text = now .text;
           })) un)
 
-    -- ---- a show
+    -- ---- a line that is read whole
 
-    module _ (head : LineHead) (eh : head ≡ lineHead (h .at) (readBegun s (h .at))) (name : NameAt) (next : ℕ) (is : head ≡ LineHead.Show name next)
-        (j : ℕ) (hj : Search.Placed (h .words) (h .newest) (name .code) j) (x : Slot) (r : Evaluated) (shown out : List ℕ) (hr : ShownAs s name (foundAt (getD (h .slots) j x .value) (h .floats) (name .code) j) j (h .shown) (h .out) (h .written) r shown out) where
-      show-here : (ls : List Line) (st : State) → Now s e rs d h ls st → (y : Line) (m : ℕ) → readLine s (h .at) ≡ got y m
-          → (w : Word) × (y ≡ show-line w) × (next ≡ m) × (readWord s (name .from) ≡ got w (name .end)) × (lookup w (st .scope .known) ≡ foundAt (getD (h .slots) j x .value) (h .floats) (name .code) j) × ShownAs s name (lookup w (st .scope .known)) j (h .shown) (h .out) (h .written) r shown out
-      show-here ls st now y m el =
-          let (w, en, es) = show-says s (h .at) head eh name next is in
-          let ey = limit-read (h .at) (got (show-line w) next) y m (sym es ∙ el) .0 in
-          let ew = subst (λ (z : NameAt). readWord s (z .from) ≡ got w (z .end)) (sym en) (show-word s (h .at) w next (el ∙ sym ey)) in
-          let ec : codeOf w ≡ name .code = ap (λ (z : NameAt). z .code) (sym en) in
-          let known = now .tabled .is w (word-is s (name .from) w (name .end) ew) ∙ ap (wordFound (h .slots) rs (h .n)) ec ∙ sym (listed-at (h .slots) rs (h .words) (h .kinds) (h .newest) (h .floats) (h .n) (now .listed) (name .code) j hj x) in
-          (w, cc, cc, ew, known, subst (λ z. ShownAs s name z j (h .shown) (h .out) (h .written) r shown out) (sym known) hr)
+    module _ (head : LineHead) (eh : head ≡ lineHead (h .at) (readBegun s (h .at))) (y : WholeLine) (next : ℕ) (is : head ≡ LineHead.Whole y next) (high : h .line ≤ 96)
+        (c : ℕ) (ec : c ≡ wordNamed y) (j : ℕ) (hj : Search.Placed (h .words) (h .newest) c j) (x : Slot) (r : Evaluated) (shown : List ℕ) (sum : Float) (out : List ℕ) (hr : WholeRuns s y j (getD (h .slots) j x .value) (h .floats) (h .shown) (h .sum) (h .out) (h .written) r shown sum out) where
+      whole-here : (ls : List Line) (st : State) → Now s e rs d h ls st → (l : Line) (m : ℕ) → readLine s (h .at) ≡ got l m → (next ≡ m) × Comes h d st l r shown sum out
+      whole-here ls st now l m el =
+          let (k, t, ek) = head-says s (h .at) head eh _ is in
+          let same = limit-read (h .at) (got k next) l m (sym ek ∙ el) .0 in
+          let kl : k ≡ l = cc in
+          (cc, subst (λ k. Comes h d st k r shown sum out) kl (whole-comes now high r shown sum out y k next t (el ∙ sym same) j (subst (λ c. Search.Placed (h .words) (h .newest) c j) ec hj) x hr))
 
-      pub runs-show-not : NotIs r → (a : RunAnswer) → a ≡ stoppedAt r (h .line) (h .written) → RunsFrom s e rs d h a out
-      unfolding step
-      runs-show-not m a ea = by-line a out (λ ls st now sp un.
-          let (w, ey, en, ew, known, sh) = show-here ls st now (sp .line) (sp .next) (sp .stands) in
-          let (er, eo) = show-not s name j (h .shown) (h .out) (h .written) r shown out (lookup w (st .scope .known)) sh m in
-          line-stops (h .line) st (sp .line) (sp .rest) (meet (lookup w (st .scope .known))) _ (ap (step (h .line) st) ey) r 0 er m (h .written) (now .count) d out (eo ∙ now .text) a ea un)
+      pub runs-whole-not : NotIs r → (a : RunAnswer) → a ≡ stoppedAt r (h .line) (h .written) → RunsFrom s e rs d h a out
+      runs-whole-not m a ea = by-line a out (λ ls st now sp un.
+          let (o, k, es, er, eo) = whole-here ls st now (sp .line) (sp .next) (sp .stands) .1 .stays m in
+          line-stops (h .line) st (sp .line) (sp .rest) o k es r 0 er m (h .written) (now .count) d out (eo ∙ now .text) a ea un)
 
-      -- the text grows by a line
-      pub runs-show : 2 ≤ h .line → h .line ≤ 96 → (kind count : ℕ) → r ≡ Evaluated.Is kind count → (q : RunAnswer) (out′ : List ℕ)
-          → RunsFrom s e rs d (record { at = next; line = h .line + 1; slots = h .slots; words = h .words; kinds = h .kinds; newest = h .newest; shown = shown; floats = h .floats; n = h .n; written = count; out = out }) q out′
+      -- the text may grow by a line
+      pub runs-whole : 2 ≤ h .line → (kind count : ℕ) → r ≡ Evaluated.Is kind count → (q : RunAnswer) (out′ : List ℕ)
+          → RunsFrom s e rs d (record { at = next; line = h .line + 1; slots = h .slots; words = h .words; kinds = h .kinds; newest = h .newest; shown = shown; sum = sum; floats = h .floats; n = h .n; written = count; out = out }) q out′
           → RunsFrom s e rs d h q out′
-      unfolding step
-      runs-show low high kind count er q out′ on = by-line q out′ (λ ls st now sp un.
-          let (w, ey, en, ew, known, sh) = show-here ls st now (sp .line) (sp .next) (sp .stands) in
-          let (v, ev, em, ej, hw) = show-is s name j (h .shown) (h .out) (h .written) r shown out (lookup w (st .scope .known)) sh kind count er in
-          let kept = found-kept (h .slots) rs (h .words) (h .kinds) (h .newest) (h .floats) (h .n) (now .listed) (now .kept .reading) (name .code) j hj x v (sym known ∙ ev) in
-          let text = entryLines (st .entries) in
-          let grows = entries-last (h .line) (st .entries) w v in
-          let (eo, ec) = line-laid s (name .from) w (name .end) ew v text d out count (omega (arith, now .size, now .count, now .bound, high)) (rw (← now .text, ← now .count) hw) in
-          let len = line-length w v (word-length w (word-is s (name .from) w (name .end) ew)) in
-          let es = ap (step (h .line) st) ey ∙ ap (λ o. thenᵒ o (λ u. goes [] (write (h .line) st w u))) em in
-          onwards (h .line) st (write (h .line) st w v) (sp .line) (sp .rest) [] es d q out′ (on .is (sp .rest) (write (h .line) st w v) (record {
+      runs-whole low kind count er q out′ on = by-line q out′ (λ ls st now sp un.
+          let (en, comes) = whole-here ls st now (sp .line) (sp .next) (sp .stands) in
+          let (st′, es, b) = comes .goes-on kind count er in
+          onwards (h .line) st st′ (sp .line) (sp .rest) [] es d q out′ (on .is (sp .rest) st′ (record {
             size = now .size;
             left = sp .fewer;
             phase = afterPhase (now .phase) (sp .line);
             reads = subst (λ z. readLines (sp .fewer) (h .line + 1) (afterPhase (now .phase) (sp .line)) s z ≡ formed (sp .rest)) (sym en) (sp .goes-on);
             lines = omega (arith, sp .one-less, now .lines);
-            surface = now .surface;
-            tabled = now .tabled;
+            surface = b .surface ∙ now .surface;
+            tabled = subst (λ ps. Tabled ps (h .slots) (h .n) rs) (sym (b .known)) (now .tabled);
             listed = now .listed;
-            kept = subst (λ js. EntriesKept (st .entries ++ (entry (h .line) w v ∷ [])) js (h .kinds) (h .floats) (h .n)) (sym ej) (entries-show (st .entries) (h .shown) (h .kinds) (h .floats) (h .n) (now .kept) (omega (arith, now .few, high)) (h .line) w v j kept);
-            few = omega (arith, now .few, length-append (st .entries) (entry (h .line) w v ∷ []));
-            count = ec ∙ ap length (sym grows);
-            bound = omega (arith, ec, length-append text (outputLine w v), len, now .count, now .bound, low);
-            text = eo ∙ ap (λ (z : List ℕ). laid z d) (sym grows);
+            kept = b .kept;
+            sums = b .sums;
+            few = omega (arith, now .few, b .few);
+            count = b .counted;
+            bound = omega (arith, b .bound, now .bound, low);
+            text = b .text;
           })) un)

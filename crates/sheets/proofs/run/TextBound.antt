@@ -10,15 +10,15 @@ use Rattle.frames.specs.declared.Orientation.the-variants.{Enu, Ned, Body, Wan}
 use Rattle.sheets.specs.declared.Value.{Value}
 use Rattle.sheets.specs.declared.Value.the-variants.{Number, Radians, Metres, Geocentric, Geodetic, Vector, Frame}
 use Rattle.sheets.specs.Text.{Word}
-use Rattle.sheets.specs.Trees.{Line, let-line, show-line, Sheet, numbered}
+use Rattle.sheets.specs.Trees.{Line, let-line, show-line, total-line, Sheet, numbered}
 use Rattle.sheets.specs.Grammar.{IsWord, IsLine, AreLines, IsSheet, after as afterPhase}
 use Rattle.sheets.specs.Kinds.{Kind, number, angle, len, geocentric, geodetic, vector, frame, kindOf, kindName}
 use Rattle.sheets.specs.Names.{lookup, givenOn}
 use Rattle.sheets.specs.Scopes.{Scope, give}
 use Rattle.sheets.specs.Refusals.{Checked}
 use Rattle.sheets.specs.Output.{hex, hexDigit, field, fields, fieldsText, outputLine}
-use Rattle.sheets.specs.Entries.{Entry, shown, entryLine, entryLines}
-use Rattle.sheets.specs.Machine.{Out, goes, stops, sticks, after, then, meet, eval, State, orSticks, rescoped, step, Ran, done, stopped, stuck, afterwards, onward, steps, start, machine}
+use Rattle.sheets.specs.Entries.{Entry, shown, summed, total, entryName, entryValue, entryLine, entryLines}
+use Rattle.sheets.specs.Machine.{Out, goes, stops, sticks, after, then, met, meet, eval, State, orSticks, rescoped, write, step, Ran, done, stopped, stuck, afterwards, onward, steps, start, machine}
 
 -- ---- an output line
 
@@ -88,9 +88,9 @@ left-then P (stops fs c) k h = tt
 left-then P (sticks fs) k h = tt
 
 -- a line more
-pub entries-last : (i : ℕ) (es : List Entry) (w : Word) (x : Value) → entryLines (es ++ (shown i w x ∷ [])) ≡ entryLines es ++ outputLine w x
-entries-last i [] w x = append-nil (outputLine w x)
-entries-last i (e ∷ es) w x = ap (λ (t : List ℕ). entryLine e ++ t) (entries-last i es w x) ∙ sym (append-assoc (entryLine e) (entryLines es) (outputLine w x))
+pub entries-last : (es : List Entry) (e : Entry) → entryLines (es ++ (e ∷ [])) ≡ entryLines es ++ entryLine e
+entries-last [] e = append-nil (entryLine e)
+entries-last (d ∷ es) e = ap (λ (t : List ℕ). entryLine d ++ t) (entries-last es e) ∙ sym (append-assoc (entryLine d) (entryLines es) (entryLine e))
 
 abbrev Longer : State → State → Type 0
 Longer s t = length (entryLines (t .entries)) ≤ length (entryLines (s .entries)) + 223
@@ -98,15 +98,18 @@ Longer s t = length (entryLines (t .entries)) ≤ length (entryLines (s .entries
 longer-scope : (s : State) (c : Checked (Scope Value)) → Left (Longer s) (rescoped s c)
 longer-scope s c = left-then (Longer s) (orSticks c) _ (λ x. omega arith)
 
+longer-write : (s : State) (e : Entry) → length (entryName e) ≤ 12 → Longer s (write s e)
+longer-write s e h =
+    let l = line-length (entryName e) (entryValue e) h in
+    let k = length-append (entryLines (s .entries)) (entryLine e) in
+    let m = ap length (entries-last (s .entries) e) in
+    omega arith
+
 longer-step : (i : ℕ) (s : State) (x : Line) → IsLine x → Left (Longer s) (step i s x)
 unfolding step
 longer-step i s (let-line w x) t = left-then (Longer s) (eval x (s .ellipsoid) (s .scope .known)) _ (λ y. longer-scope s (give (givenOn i w y) (s .scope)))
-longer-step i s (show-line w) t =
-    left-then (Longer s) (meet (lookup w (s .scope .known))) _ (λ y.
-    let h = line-length w y (word-length w (t .0 .1 .0)) in
-    let k = length-append (entryLines (s .entries)) (outputLine w y) in
-    let m = ap length (entries-last i (s .entries) w y) in
-    omega arith)
+longer-step i s (show-line w) t = left-then (Longer s) (meet (lookup w (s .scope .known))) _ (λ y. longer-write s (shown i w y) (word-length w (t .0 .1 .0)))
+longer-step i s total-line t = left-then (Longer s) (met (Metres (total (s .entries)))) _ (λ y. longer-write s (summed (total (s .entries))) (omega arith))
 
 -- ---- a sheet
 

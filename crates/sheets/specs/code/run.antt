@@ -6,4 +6,5 @@ pub mod Evaluating
 pub mod Digits
 pub mod Writing
 pub mod Keeping
+pub mod Wholes
 pub mod Running

@@ -10,6 +10,7 @@ use crate::reader::expr::Read;
 use crate::reader::form::FormRead;
 use crate::reader::form::form_from;
 use crate::reader::lines::LineHead;
+use crate::reader::lines::WholeLine;
 use crate::reader::lines::closing;
 use crate::reader::lines::is_short;
 use crate::reader::lines::line_head;
@@ -22,7 +23,7 @@ ghost use Rattle.sheets.specs.code.reader.Views.{linesForm};
 ghost use Rattle.sheets.specs.Trees.{show-line};
 ghost use Rattle.sheets.specs.Answers.{ofForm};
 ghost use Rattle.sheets.specs.declared.check.admit.Outcome.{Outcome};
-ghost use Rattle.sheets.specs.code.check.Walking.{ForKnown, BarredWord, ForScope, LineHas, WordHas, shortKind, LinesWalk, unlessBad, Admits};
+ghost use Rattle.sheets.specs.code.check.Walking.{ForKnown, BarredWord, ForScope, LineHas, WordHas, WholeHas, shortKind, LinesWalk, unlessBad, Admits};
 
 // The code of a line's word, its kind code and the place of the next line, or the number of the refusal.
 pub enum LineKind {
@@ -68,6 +69,22 @@ fn known_kind(
         return LineKind::Refused(5);
     }
     LineKind::Is(code, kind, next)
+}
+
+// A line that is read whole, where the next line stands at `next`. One that names no word has the code 0 for it.
+fn whole_kind(
+    line: WholeLine,
+    next: usize,
+    words: &[u64; 96],
+    codes: &[u8; 96],
+    newest: &[u8; 512],
+) -> LineKind
+    ensures { λ r. ⌜ ForScope (now (words .entry)) (now (codes .entry)) (now (newest .entry)) (λ i c. WholeHas line next i c r) ⌝ }
+{
+    match line {
+        WholeLine::Show(name) => known_kind(name.code, next, words, codes, newest),
+        WholeLine::Total => LineKind::Is(0, 2, next),
+    }
 }
 
 // A let of the word with this code, from the place of its expression, which is read before the name is given.
@@ -129,8 +146,8 @@ fn line_kind(
             let r = let_kind(s, name.code, value, words, codes, newest);
             short_kind(at, r)
         }
-        LineHead::Show(name, next) => {
-            let r = known_kind(name.code, next, words, codes, newest);
+        LineHead::Whole(line, next) => {
+            let r = whole_kind(line, next, words, codes, newest);
             short_kind(at, r)
         }
     }

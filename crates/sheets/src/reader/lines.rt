@@ -10,7 +10,7 @@ ghost use mathlib.Core.Path.{_≡_};
 ghost use Prim.Native.Nat.{_+_};
 ghost use lib.Dec.{leb};
 ghost use Rattle.sheets.specs.code.reader.Reader.{readWord, opening, spaced, first, one, readBegun, readLine};
-ghost use Rattle.sheets.specs.code.reader.Views.{place, closed, shortEnd, coded, namedAt, lineHead};
+ghost use Rattle.sheets.specs.code.reader.Views.{place, closed, shortEnd, coded, namedAt, lineHead, WholeHead};
 
 // A line's word: its code, and where it stands, from its first byte to the place after it.
 pub struct NameAt {
@@ -25,10 +25,16 @@ pub(crate) enum NameRead {
     Not,
 }
 
-// What a line is, with its word: of a let the place of its expression, of any other line the place of the next one.
+// A line that is read whole: which it is, with its word.
+pub enum WholeLine {
+    Show(NameAt),
+    Total,
+}
+
+// What a line is: a let, with its word and the place of its expression; or any other line, and the place of the next one.
 pub enum LineHead {
     Let(NameAt, usize),
-    Show(NameAt, usize),
+    Whole(WholeLine, usize),
     Bad,
 }
 
@@ -121,6 +127,29 @@ fn first_word(s: &[u8], at: usize) -> NameRead
     NameRead::Not
 }
 
+// Which line stands at a place, where it is no let: by the code of the word that opens it, and the place after that word.
+fn whole_head(s: &[u8], at: usize, code: u64, n: usize) -> LineHead
+    ensures { λ r. ⌜ WholeHead (now (s .entry)) at code n r ⌝ }
+{
+    match code {
+        words::SHOW => {
+            let r = one_word(s, n);
+            match r {
+                NameRead::Is(name, next) => LineHead::Whole(WholeLine::Show(name), next),
+                NameRead::Not => LineHead::Bad,
+            }
+        }
+        words::TOTAL => {
+            let r = closing(s, n);
+            match r {
+                Read::At(next) => LineHead::Whole(WholeLine::Total, next),
+                Read::Bad => LineHead::Bad,
+            }
+        }
+        _ => LineHead::Bad,
+    }
+}
+
 // Which line stands at a place, by the word that opens it.
 pub fn line_head(s: &[u8], at: usize) -> LineHead
     ensures { λ r. ⌜ r ≡ lineHead at (readBegun (now (s .entry)) at) ⌝ }
@@ -137,14 +166,7 @@ pub fn line_head(s: &[u8], at: usize) -> LineHead
                 NameRead::Not => LineHead::Bad,
             }
         }
-        words::SHOW => {
-            let r = one_word(s, n);
-            match r {
-                NameRead::Is(name, next) => LineHead::Show(name, next),
-                NameRead::Not => LineHead::Bad,
-            }
-        }
-        _ => LineHead::Bad,
+        _ => whole_head(s, at, code, n),
     }
 }
 
@@ -158,7 +180,7 @@ pub(crate) fn is_short(at: usize, next: usize) -> bool
     true
 }
 
-// The end of a line of at most 200 bytes. A show never has more, and is tested as every line is.
+// The end of a line of at most 200 bytes. A line that is read whole never has more, and is tested as every line is.
 fn short_end(at: usize, next: usize) -> Read
     ensures { λ r. ⌜ r ≡ shortEnd at next ⌝ }
 {
@@ -175,7 +197,7 @@ pub fn line_end(s: &[u8], at: usize) -> Read
     let h = line_head(s, at);
     match h {
         LineHead::Bad => Read::Bad,
-        LineHead::Show(_, next) => short_end(at, next),
+        LineHead::Whole(_, next) => short_end(at, next),
         LineHead::Let(_, value) => {
             let x = expr(s, value, 11);
             let Read::At(n) = x else {

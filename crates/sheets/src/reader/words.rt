@@ -10,6 +10,8 @@ pub const LET: u64 = 16633;
 
 pub const SHOW: u64 = 973937;
 
+pub const TOTAL: u64 = 38270444;
+
 // The operators, in the kind table's order.
 pub const DEG: u64 = 5668;
 

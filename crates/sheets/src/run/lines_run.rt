@@ -1,6 +1,5 @@
 // The lines of an admitted sheet, run one after another over the table of names.
 use crate::Evaluated;
-use crate::Value;
 use crate::answers::RunAnswer;
 use crate::answers::run_answer;
 use crate::check::newest::put_newest;
@@ -10,23 +9,17 @@ use crate::reader::lines::LineHead;
 use crate::reader::lines::NameAt;
 use crate::reader::lines::closing;
 use crate::reader::lines::line_head;
-use crate::rows::limits::in_limit;
 use crate::rows::value::Slot;
 use crate::rows::value::empty_slot;
-use crate::rows::value::kind_of;
 use crate::run::eval::eval;
 use crate::run::floats::value_at;
 use crate::run::readings::put_readings;
-use crate::run::readings::reading_index;
-use crate::run::text::output_line;
+use crate::run::whole::named;
+use crate::run::whole::whole_line;
 use frames::Ellipsoid;
 ghost use mathlib.Core.Path.{_≡_};
-ghost use mathlib.Core.Option.{some};
 ghost use Prim.Native.Nat.{_+_, _≤_};
-ghost use lib.ListN.{getD};
-ghost use Rattle.sheets.specs.code.run.Keeping.{keep};
-ghost use Rattle.sheets.specs.code.run.Known.{foundAt};
-ghost use Rattle.sheets.specs.code.run.Running.{LetWith, GivenAt, ShownAs, stoppedAt, Runs};
+ghost use Rattle.sheets.specs.code.run.Running.{LetWith, GivenAt, stoppedAt, Runs};
 
 // What a let gives, from the place of its expression: the kind's code of its value, which lies at `top`, and the place of the next line.
 fn let_value(
@@ -74,63 +67,6 @@ fn give(
     Slot { word, value }
 }
 
-// The place of what is shown is kept: `shown` has the number of these places first.
-fn keep(shown: &mut [u8; 96], place: usize)
-    requires { ⌜ (getD (now shown) 0 0 ≤ 94) × (place ≤ 95) ⌝ }
-    ensures { λ _. ⌜ now (shown .exit) ≡ keep (now (shown .entry)) place ⌝ }
-{
-    let count = shown[0] + 1;
-    shown[count as usize] = place as u8;
-    shown[0] = count;
-}
-
-// A show of a value, which stands at a place among the names: the kind's code, and the bytes then written.
-fn show_value(
-    s: &[u8],
-    name: NameAt,
-    v: Value,
-    place: usize,
-    shown: &mut [u8; 96],
-    out: &mut [u8],
-    written: usize,
-) -> Evaluated
-    requires { ⌜ (getD (now shown) 0 0 ≤ 94) × (place ≤ 95) ⌝ }
-    ensures { λ r. ⌜ ShownAs (now (s .entry)) name (some v) place (now (shown .entry)) (now (out .entry)) written r (now (shown .exit)) (now (out .exit)) ⌝ }
-{
-    if in_limit(v) {
-        keep(shown, place);
-        let kind = kind_of(v);
-        let n = output_line(s, name.from, name.end, v, out, written);
-        return Evaluated::Is(kind, n);
-    }
-    Evaluated::Stops(7)
-}
-
-// A show of a word, by its place j and the slot x there: of what the slot holds, or of a reading, whose place is 0.
-fn show(
-    s: &[u8],
-    name: NameAt,
-    j: usize,
-    x: Slot,
-    floats: &[f64; 2940],
-    shown: &mut [u8; 96],
-    out: &mut [u8],
-    written: usize,
-) -> Evaluated
-    requires { ⌜ (getD (now shown) 0 0 ≤ 94) × (j ≤ 95) ⌝ }
-    ensures { λ r. ⌜ ShownAs (now (s .entry)) name (foundAt (x .value) (now (floats .entry)) (name .code) j) j (now (shown .entry)) (now (out .entry)) written r (now (shown .exit)) (now (out .exit)) ⌝ }
-{
-    let mut v = x.value;
-    if j == 0 {
-        let i = reading_index(name.code);
-        if 16 <= i {
-            return Evaluated::Sticks;
-        }
-        v = Value::Number(floats[i]);
-    }
-    show_value(s, name, v, j, shown, out, written)
-}
-
 // The answer where a line does not go on. An admitted sheet never sticks, so what is answered then does not matter.
 fn stopped(r: Evaluated, line: usize, written: usize) -> RunAnswer
     ensures { λ a. ⌜ a ≡ stoppedAt r line written ⌝ }
@@ -143,7 +79,7 @@ fn stopped(r: Evaluated, line: usize, written: usize) -> RunAnswer
 
 // The lines from line 2, which stands at `from`.
 // The table of names stays here; slot 0 stays empty. `words`, `kinds` and `floats` have its words, kinds and values, each at its slot's place, for the evaluator; `newest` is that of newest.rt.
-// `shown` has the places of what was shown, and a place is never given to another name: so the kind and the floats of each name that was shown stay known. Of a reading only its kind does: at place 0 stands that of a number.
+// `shown` has the places of what was shown, and a place is never given to another name: so the kind and the floats of each name that was shown stay known. Of a reading only its kind does: at place 0 stands that of a number. `sum` is the sum of the lengths shown.
 pub fn run_lines(s: &[u8], from: usize, e: Ellipsoid, readings: &[f64], out: &mut [u8]) -> RunAnswer
     ensures { λ r. ⌜ Runs (now (s .entry)) from e (now (readings .entry)) (now (out .entry)) r (now (out .exit)) ⌝ }
 {
@@ -152,6 +88,7 @@ pub fn run_lines(s: &[u8], from: usize, e: Ellipsoid, readings: &[f64], out: &mu
     let mut kinds = [0u8; 96];
     let mut newest = [0u8; 512];
     let mut shown = [0u8; 96];
+    let mut sum = 0.0;
     let mut floats = [0.0; 2940];
     put_readings(readings, &mut floats);
     let mut at = from;
@@ -171,9 +108,9 @@ pub fn run_lines(s: &[u8], from: usize, e: Ellipsoid, readings: &[f64], out: &mu
                 t[n] = give(name, kind, n, &floats, &mut words, &mut kinds, &mut newest);
                 at = next;
             }
-            LineHead::Show(name, next) => {
-                let j = word_place(&words, &newest, name.code);
-                match show(s, name, j, t[j], &floats, &mut shown, out, written) {
+            LineHead::Whole(w, next) => {
+                let j = word_place(&words, &newest, named(w));
+                match whole_line(s, w, j, t[j], &floats, &mut shown, &mut sum, out, written) {
                     Evaluated::Is(_, count) => written = count,
                     r => return stopped(r, line, written),
                 }

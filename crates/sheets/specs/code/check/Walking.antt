@@ -3,16 +3,17 @@
 use Prim.Native.Nat.{ℕ, zero, suc, _+_, _≤_}
 use mathlib.Core.Path.{_≡_}
 use mathlib.Core.Bool.{Bool}
-use mathlib.Core.List.{List, _∷_, map}
+use mathlib.Core.List.{List, [], _∷_, map}
 use lib.Dec.{eqb, leb}
 use mir.Val.{hasKey}
 use lib.ListN.{length, getD, take}
 use Rattle.frames.specs.declared.Ellipsoid.{Ellipsoid}
 use Rattle.sheets.specs.Text.{Word}
-use Rattle.sheets.specs.Trees.{Expr, Exprs, Line, let-line, show-line, numbered}
+use Rattle.sheets.specs.Trees.{Expr, Exprs, Line, let-line, show-line, total-line, numbered}
 use Rattle.sheets.specs.Grammar.{IsWord}
 use Rattle.sheets.specs.code.reader.Codes.{codeOf}
 use Rattle.sheets.specs.code.reader.Reader.{Got, got, readArgs, readExpr, readHead, Form, formed, badLine, readLines}
+use Rattle.sheets.specs.code.reader.Views.{WholeAt}
 use Rattle.sheets.specs.Kinds.{Kind, kindCode}
 use Rattle.sheets.specs.Table.{when}
 use Rattle.sheets.specs.Names.{Known, lookup, barred, readingWords}
@@ -23,6 +24,7 @@ use Rattle.sheets.specs.Refusals.{Refusal, form, fault, refusalNumber, C
 use Rattle.sheets.specs.Check.{kindOfExpr, kindsOfExprs, lineᶜ, Walked, passes, refuses, stepsᶜ, startᶜ}
 use Rattle.sheets.specs.Machine.{surface}
 use Rattle.sheets.specs.Answers.{Verdict, admitted, refused}
+use Rattle.sheets.specs.declared.reader.lines.WholeLine.{WholeLine}
 use Rattle.sheets.specs.declared.reader.form.FormRead.{FormRead}
 use Rattle.sheets.specs.declared.check.kind_walk.KindRead.{KindRead}
 use Rattle.sheets.specs.declared.check.kind_walk.KeyRead.{KeyRead}
@@ -84,9 +86,11 @@ pub record ArgsHave (s : List ℕ) (at depth left key : ℕ) (ps : Known Kind) (
 
 -- ---- lines
 
+-- the word that stands for a line in the table: none, [], where it gives and names no word
 abbrev pub lineWord : Line → Word
 lineWord (let-line w x) = w
 lineWord (show-line w) = w
+lineWord total-line = []
 
 -- the lines passed stand for the words that the scope knows; the line is line i, whatever i is
 pub record ForScope (words codes newest : List ℕ) (P : ℕ → Scope Kind → Type 0) : Type 0 where
@@ -105,6 +109,10 @@ pub record LineHas (o : Got Line) (i : ℕ) (c : Scope Kind) (r : LineKind) : Ty
 -- r answers what the reader reads of a line whose word, of this code, it has read
 pub record WordHas (code : ℕ) (o : Word → Got Line) (i : ℕ) (c : Scope Kind) (r : LineKind) : Type 0 where
   pub is : (w : Word) → IsWord w → codeOf w ≡ code → LineHas (o w) i c r
+
+-- r answers a line that is read whole, where the next one stands at `next`
+pub record WholeHas (line : WholeLine) (next i : ℕ) (c : Scope Kind) (r : LineKind) : Type 0 where
+  pub is : (at : ℕ) (l : Line) → WholeAt at line l → LineHas (got l next) i c r
 
 -- refusal 3 for a line at a place that has more than 200 bytes
 unfoldable pub shortKind : ℕ → LineKind → LineKind

@@ -7,7 +7,7 @@ use mathlib.Core.List.{List, [], _∷_}
 use lib.Dec.{eqb, leb}
 use lib.ListN.{length, getD}
 use Rattle.sheets.specs.Text.{Word, ascii}
-use Rattle.sheets.specs.Trees.{Num, Expr, Exprs, word-expr, num-expr, form-expr, nil, _▸_, Line, let-line, show-line, Head, wgs84, custom, Sheet}
+use Rattle.sheets.specs.Trees.{Num, Expr, Exprs, word-expr, num-expr, form-expr, nil, _▸_, Line, let-line, show-line, total-line, Head, wgs84, custom, Sheet}
 use Rattle.sheets.specs.Grammar.{allowed, after}
 pub use Rattle.sheets.specs.Grammar.{Form, formed, badLine}
 use Rattle.sheets.specs.code.reader.Codes.{letter, wordChar, digit, codeFrom, codeOf}
@@ -171,6 +171,7 @@ unfoldable pub lineRows : List (Row Begun)
 lineRows =
     row "let" (first readWord let-word)
     ∷ row "show" (one readWord (λ w. whole (show-line w)))
+    ∷ row "total" (closing (whole total-line))
     ∷ []
 
 unfoldable pub readBegun : List ℕ → ℕ → Got Begun

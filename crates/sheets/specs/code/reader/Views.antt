@@ -8,9 +8,10 @@ use mathlib.Core.List.{List, [], _∷_}
 use lib.Dec.{eqb, leb}
 use lib.ListN.{length, getD, drop}
 use Rattle.sheets.specs.Text.{Word, ascii}
-use Rattle.sheets.specs.Trees.{Num, decimalFrom, numDigits, Line, let-line, show-line, Head, wgs84, custom, Sheet}
+use Rattle.sheets.specs.Trees.{Num, decimalFrom, numDigits, Line, let-line, show-line, total-line, Head, wgs84, custom, Sheet}
+use Rattle.sheets.specs.Grammar.{IsWord}
 use Rattle.sheets.specs.code.reader.Codes.{codeOf}
-use Rattle.sheets.specs.code.reader.Reader.{Got, none, got, closing, limit, Begun, let-word, whole, Form, formed, badLine}
+use Rattle.sheets.specs.code.reader.Reader.{Got, none, got, opening, closing, limit, Begun, let-word, whole, readBegun, Form, formed, badLine}
 use Rattle.sheets.specs.Table.{when}
 use Rattle.sheets.specs.Limits.{numValue}
 use Rattle.sheets.specs.declared.reader.bytes.WordRead.{WordRead}
@@ -21,6 +22,7 @@ use Rattle.sheets.specs.declared.reader.num.DoubleRead.{DoubleRead}
 use Rattle.sheets.specs.declared.reader.expr.Read.{Read}
 use Rattle.sheets.specs.declared.reader.lines.NameAt.{NameAt}
 use Rattle.sheets.specs.declared.reader.lines.NameRead.{NameRead}
+use Rattle.sheets.specs.declared.reader.lines.WholeLine.{WholeLine}
 use Rattle.sheets.specs.declared.reader.lines.LineHead.{LineHead}
 use Rattle.sheets.specs.declared.reader.head.HeadRead.{HeadRead}
 use Rattle.sheets.specs.declared.reader.form.FormRead.{FormRead}
@@ -99,12 +101,22 @@ namedAt at (got w n) = NameRead.Is (nameAt w at) n
 abbrev pub behind : String → ℕ → ℕ
 behind k at = at + length (ascii k) + 2
 
--- the head of the line at a place: its word, and the place of its expression or of the next line; a let is never read whole
+-- the head of the line at a place: a let with its word and the place of its expression, or a line read whole and the place of the next one; a let is never read whole
 unfoldable pub lineHead : ℕ → Got Begun → LineHead
 lineHead at none = LineHead.Bad
 lineHead at (got (let-word w) n) = LineHead.Let (nameAt w (behind "let" at)) n
-lineHead at (got (whole (show-line w)) n) = LineHead.Show (nameAt w (behind "show" at)) n
+lineHead at (got (whole (show-line w)) n) = LineHead.Whole (WholeLine.Show (nameAt w (behind "show" at))) n
+lineHead at (got (whole total-line) n) = LineHead.Whole WholeLine.Total n
 lineHead at (got (whole (let-line w x)) n) = LineHead.Bad
+
+-- the code has this of the line l, which it read whole at a place
+abbrev pub WholeAt : ℕ → WholeLine → Line → Type 0
+WholeAt at (WholeLine.Show name) l = (w : Word) × IsWord w × (name ≡ nameAt w (behind "show" at)) × (l ≡ show-line w)
+WholeAt at WholeLine.Total l = l ≡ total-line
+
+-- r is the head of the line at a place where the word with this code opens it, up to n, and it is no let
+pub record WholeHead (s : List ℕ) (at code n : ℕ) (r : LineHead) : Type 0 where
+  pub is : WordRead.Is code n ≡ coded (opening s at) → (code ≡ codeOf (ascii "let") → ⊥) → r ≡ lineHead at (readBegun s at)
 
 -- line 1: its two numbers as doubles, where it has them, and the place of the next line
 unfoldable pub headOf : Got Head → HeadRead

@@ -2,22 +2,17 @@
 -- No part of what must be believed: they only tie the code to the machine.
 use Prim.Native.Nat.{ℕ, _*_, _%_, _<_}
 use mathlib.Core.Path.{_≡_}
-use mathlib.Core.Bool.{Bool, true, false}
 use mathlib.Core.List.{List, []}
-use mathlib.Core.Option.{Option, none, some}
 use lib.ListN.{length, getD, set, replicate}
 use lib.Ieee.{Float}
 use Rattle.numbers.specs.Ops.{num}
 use Rattle.frames.specs.declared.Ellipsoid.{Ellipsoid}
 use Rattle.sheets.specs.declared.Value.{Value}
 use Rattle.sheets.specs.declared.rows.value.Slot.{Slot}
-use Rattle.sheets.specs.declared.reader.lines.NameAt.{NameAt}
 use Rattle.sheets.specs.declared.answers.RunAnswer.{RunAnswer}
 use Rattle.sheets.specs.declared.Evaluated.{Evaluated}
 use Rattle.sheets.specs.Text.{Word}
 use Rattle.sheets.specs.Trees.{Expr, Line, let-line, numbered}
-use Rattle.sheets.specs.Kinds.{kindOf, kindCode}
-use Rattle.sheets.specs.Limits.{inLimit}
 use Rattle.sheets.specs.Names.{Known, readingWords}
 use Rattle.sheets.specs.Machine.{eval, State, steps, readings}
 use Rattle.sheets.specs.Answers.{Tells}
@@ -26,9 +21,7 @@ use Rattle.sheets.specs.code.reader.Reader.{got, let-word, rest, formed,
 use Rattle.sheets.specs.code.rows.KindCodes.{kindAt}
 use Rattle.sheets.specs.code.run.Floats.{floatAt, valueAt}
 use Rattle.sheets.specs.code.run.Known.{Ready}
-use Rattle.sheets.specs.code.run.Keeping.{keep}
 use Rattle.sheets.specs.code.run.Evaluating.{Answers}
-use Rattle.sheets.specs.code.run.Writing.{Written, lineIf, room}
 
 -- the readings stand first among the floats, 0 for one that is lacking, where there were only zeros
 pub record WithReadings (rs f f′ : List Float) : Type 0 where
@@ -46,19 +39,6 @@ pub record GivenAt (word kind place : ℕ) (f : List Float) (words kinds newest 
   pub words-are : words′ ≡ set words place word
   pub kinds-are : kinds′ ≡ set kinds place kind
   pub newest-are : newest′ ≡ set newest (word % 512) place
-
--- the line of the value under the name, and the bytes then written; its place j is kept
-unfoldable pub ShownIf : Bool → List ℕ → NameAt → Value → ℕ → List ℕ → List ℕ → ℕ → Evaluated → List ℕ → List ℕ → Type 0
-ShownIf true s name v j js out written r js′ out′ = (m : ℕ) × (r ≡ Evaluated.Is (kindCode (kindOf v)) m) × (js′ ≡ keep js j) × Written out written (lineIf (room s (name .from) (name .end) out written) s (name .from) (name .end) v) out′ m
-ShownIf false s name v j js out written r js′ out′ = (r ≡ Evaluated.Stops 7) × (js′ ≡ js) × (out′ ≡ out)
-
--- a show of what was found at the place j
-unfoldable pub Shown : List ℕ → NameAt → Option Value → ℕ → List ℕ → List ℕ → ℕ → Evaluated → List ℕ → List ℕ → Type 0
-Shown s name (some v) j js out written r js′ out′ = ShownIf (inLimit v) s name v j js out written r js′ out′
-Shown s name none j js out written r js′ out′ = (r ≡ Evaluated.Sticks) × (js′ ≡ js) × (out′ ≡ out)
-
-pub record ShownAs (s : List ℕ) (name : NameAt) (x : Option Value) (j : ℕ) (js out : List ℕ) (written : ℕ) (r : Evaluated) (js′ out′ : List ℕ) : Type 0 where
-  pub is : Shown s name x j js out written r js′ out′
 
 -- the answer where a line does not go on
 unfoldable pub stoppedAt : Evaluated → ℕ → ℕ → RunAnswer

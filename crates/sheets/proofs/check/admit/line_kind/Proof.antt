@@ -1,7 +1,6 @@
 -- `sheets::check::admit::line_kind` meets its contract. Assumes nothing.
 use borrow.Author.Needs.{needs}
-use Rattle.sheets.specs.code.reader.Reader.{rest}
-use Rattle.sheets.proofs.check.LineKindSteps.{line-nothing, line-word}
+use Rattle.sheets.proofs.check.LineKindSteps.{line-nothing, line-word, line-whole}
 use Rattle.sheets.proofs.reader.LineSteps.{head-says}
 use Rattle.sheets.proofs.check.admit.line_kind.Statement.{statement}
 use Rattle.sheets.proofs.check.admit.line_kind.Tie as tie
@@ -24,8 +23,8 @@ short-kind-requires c κs = search needs
 enum-known-h-2 : tie.Need-enum-known-h-2
 enum-known-h-2 c = search needs
 
-known-kind-requires : tie.Need-known-kind-requires
-known-kind-requires c κs = search needs
+whole-kind-requires : tie.Need-whole-kind-requires
+whole-kind-requires c κs = search needs
 
 short-kind-requires-2 : tie.Need-short-kind-requires-2
 short-kind-requires-2 c κs = search needs
@@ -37,8 +36,7 @@ returns-2 : tie.Need-returns-2
 returns-2 c = record { is = λ i d st. line-word _ _ i d _ _ (head-says _ _ _ (c .before .before .before .before .before .line-head .ensures) _ (c .before .before .before .h .given .1)) _ (c .before .let-kind .ensures .is i d st) _ (c .short-kind .ensures) }
 
 returns-3 : tie.Need-returns-3
-unfolding rest
-returns-3 c = record { is = λ i d st. line-word _ _ i d _ _ (head-says _ _ _ (c .before .before .before .before .before .line-head .ensures) _ (c .before .before .before .h2 .given .1)) _ (c .before .known-kind .ensures .is i d st) _ (c .short-kind2 .ensures) }
+returns-3 c = record { is = λ i d st. line-whole _ _ i d _ _ (head-says _ _ _ (c .before .before .before .before .before .line-head .ensures) _ (c .before .before .before .h2 .given .1)) _ (c .before .whole-kind .ensures .is i d st) _ (c .short-kind2 .ensures) }
 
 pub line-kind-spec : {M : Type 1} → statement M
 line-kind-spec =
@@ -50,7 +48,7 @@ line-kind-spec =
     let-kind-requires
     short-kind-requires
     enum-known-h-2
-    known-kind-requires
+    whole-kind-requires
     short-kind-requires-2
     returns
     returns-2

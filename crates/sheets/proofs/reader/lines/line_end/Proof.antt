@@ -1,5 +1,5 @@
 -- `sheets::reader::lines::line_end` meets its contract. Assumes nothing.
-use Rattle.sheets.proofs.reader.LineSteps.{end-bad, end-show, end-no-expr, end-no-end, end-let}
+use Rattle.sheets.proofs.reader.LineSteps.{end-bad, end-whole, end-no-expr, end-no-end, end-let}
 use borrow.Author.Needs.{needs}
 use Rattle.sheets.proofs.reader.lines.line_end.Statement.{statement}
 use Rattle.sheets.proofs.reader.lines.line_end.Tie as tie
@@ -50,7 +50,7 @@ returns-3 : tie.Need-returns-3
 returns-3 c = end-bad _ _ _ (c .before .before .line-head .ensures) (c .enum-told .given .1)
 
 returns-4 : tie.Need-returns-4
-returns-4 c = end-show _ _ _ (c .before .before .before .before .line-head .ensures) _ _ (c .before .before .h .given .1) _ (c .short-end .ensures)
+returns-4 c = end-whole _ _ _ (c .before .before .before .before .line-head .ensures) _ _ (c .before .before .h .given .1) _ (c .short-end .ensures)
 
 returns-5 : tie.Need-returns-5
 returns-5 c = end-let _ _ _ (c .before .before .before .before .before .before .before .before .before .before .before .before .line-head .ensures) _ _ (c .before .before .before .before .before .before .before .before .before .before .h2 .given .1) _ (c .before .before .before .before .before .before .before .before .expr .ensures) _ (c .before .before .before .before .before .before .x .given .1) _ (c .before .before .before .before .closing .ensures) _ (c .before .before .c .given .1) _ (c .short-end2 .ensures)

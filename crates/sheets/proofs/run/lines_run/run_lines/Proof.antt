@@ -8,19 +8,19 @@ use lib.ListN.{length, getD, length-set, length-replicate}
 use Rattle.sheets.specs.declared.answers.RunAnswer.{RunAnswer}
 use Rattle.sheets.specs.code.run.Running.{Runs}
 use Rattle.sheets.proofs.reader.LineSteps.{head-says}
-use Rattle.sheets.proofs.run.RunParts.{shown-count}
-use Rattle.sheets.proofs.run.RunSteps.{RunsFrom, runs-start, runs-end, runs-over, runs-bad, runs-let-not, runs-let, runs-show-not, runs-show}
+use Rattle.sheets.proofs.run.WholeParts.{whole-count}
+use Rattle.sheets.proofs.run.RunSteps.{RunsFrom, runs-start, runs-end, runs-over, runs-bad, runs-let-not, runs-let, runs-whole-not, runs-whole}
 use borrow.Author.Needs.{needs}
 use borrow.Author.Tests.{ltb-true, ltb-false}
 use Rattle.sheets.proofs.run.lines_run.run_lines.Statement.{statement}
 use Rattle.sheets.proofs.run.lines_run.run_lines.Tie as tie
 
 abbrev Inv-loop : tie.InvT-loop
-Inv-loop s from e readings out₀ t₀ words₀ kinds₀ newest₀ shown₀ floats₀ at₀ line₀ n₀ written₀ out t words kinds newest shown floats at line n written = (length t ≡ 96) × (n + 1 ≤ line) × (line ≤ 96) × (length out ≡ length out₀) × (length shown ≡ 96) × (getD shown 0 0 + 1 ≤ line)
-    × ((q : RunAnswer) (o : List ℕ) → RunsFrom s e readings out₀ (record { at = at; line = line + 1; slots = t; words = words; kinds = kinds; newest = newest; shown = shown; floats = floats; n = n; written = written; out = out }) q o → Runs s from e readings out₀ q o)
+Inv-loop s from e readings out₀ t₀ words₀ kinds₀ newest₀ shown₀ sum₀ floats₀ at₀ line₀ n₀ written₀ out t words kinds newest shown sum floats at line n written = (length t ≡ 96) × (n + 1 ≤ line) × (line ≤ 96) × (length out ≡ length out₀) × (length shown ≡ 96) × (getD shown 0 0 + 1 ≤ line)
+    × ((q : RunAnswer) (o : List ℕ) → RunsFrom s e readings out₀ (record { at = at; line = line + 1; slots = t; words = words; kinds = kinds; newest = newest; shown = shown; sum = sum; floats = floats; n = n; written = written; out = out }) q o → Runs s from e readings out₀ q o)
 
 abbrev μ-loop : tie.MeasureT-loop
-μ-loop s from e readings out₀ t₀ words₀ kinds₀ newest₀ shown₀ floats₀ at₀ line₀ n₀ written₀ out t words kinds newest shown floats at line n written = 96 - line
+μ-loop s from e readings out₀ t₀ words₀ kinds₀ newest₀ shown₀ sum₀ floats₀ at₀ line₀ n₀ written₀ out t words kinds newest shown sum floats at line n written = 96 - line
 
 empty-slot-requires : tie.Need-empty-slot-requires Inv-loop μ-loop
 empty-slot-requires c κs = search needs
@@ -88,20 +88,23 @@ loop-less c = omega (arith, c .before .before .before .before .before .before .b
 loop-again : tie.Need-loop-again Inv-loop μ-loop
 loop-again c = (simp length-set (c .before .before .before .before .before .before .before .before .before .before .before .before .before .before .before .before .before .before .before .loop .inv .0), omega (arith, c .before .before .before .before .before .before .before .before .before .before .before .before .before .before .before .before .before .before .before .loop .inv .1), omega (arith, c .before .before .before .before .before .before .before .before .before .before .before .before .before .before .before .before .before .before .loop-test .taken), c .before .before .before .before .before .before .before .before .before .before .before .before .before .before .before .before .before .before .before .loop .inv .3, c .before .before .before .before .before .before .before .before .before .before .before .before .before .before .before .before .before .before .before .loop .inv .4, omega (arith, c .before .before .before .before .before .before .before .before .before .before .before .before .before .before .before .before .before .before .before .loop .inv .5), λ q o k. c .before .before .before .before .before .before .before .before .before .before .before .before .before .before .before .before .before .before .before .loop .inv .6 q o (runs-let (ltb-true _ _ (c .before .before .before .before .before .before .before .before .before .before .before .before .before .before .before .before .before .if1 .taken)) _ _ (head-says _ _ _ (c .before .before .before .before .before .before .before .before .before .before .before .before .before .before .before .before .line-head .ensures) _ (c .before .before .before .before .before .before .before .before .before .before .before .before .before .before .name .given .1)) _ _ (c .before .before .before .before .before .before .before .before .let-value .ensures) _ _ (c .before .before .before .before .before .before .r .given .1) (omega (arith, c .before .before .before .before .before .before .before .before .before .before .before .before .before .before .before .before .before .before .before .loop .inv .1, c .before .before .before .before .before .before .before .before .before .before .before .before .before .before .before .before .before .before .loop-test .taken)) _ _ _ _ (c .give .ensures) q o k))
 
-enum-known-name-2 : tie.Need-enum-known-name-2 Inv-loop μ-loop
-enum-known-name-2 c = search needs
+enum-known-w : tie.Need-enum-known-w Inv-loop μ-loop
+enum-known-w c = search needs
+
+named-requires : tie.Need-named-requires Inv-loop μ-loop
+named-requires c κs = search needs
 
 word-place-requires : tie.Need-word-place-requires Inv-loop μ-loop
 word-place-requires c κs = search needs
 
-mul-show : tie.Need-mul-show Inv-loop μ-loop
-mul-show c = search needs
+mul-whole-line : tie.Need-mul-whole-line Inv-loop μ-loop
+mul-whole-line c = search needs
 
-array-copy-out-show : tie.Need-array-copy-out-show Inv-loop μ-loop
-array-copy-out-show c = omega (arith, c .word-place .ensures .most, c .before .before .before .before .before .before .before .before .before .loop .inv .0)
+array-copy-out-whole-line : tie.Need-array-copy-out-whole-line Inv-loop μ-loop
+array-copy-out-whole-line c = omega (arith, c .word-place .ensures .most, c .before .before .before .before .before .before .before .before .before .before .loop .inv .0)
 
-show-requires : tie.Need-show-requires Inv-loop μ-loop
-show-requires c κs = (omega (arith, c .before .before .before .before .before .before .before .before .before .before .before .before .before .loop .inv .5, c .before .before .before .before .before .before .before .before .before .before .before .before .loop-test .taken), c .before .before .before .before .word-place .ensures .most)
+whole-line-requires : tie.Need-whole-line-requires Inv-loop μ-loop
+whole-line-requires c κs = (omega (arith, c .before .before .before .before .before .before .before .before .before .before .before .before .before .before .before .loop .inv .5, c .before .before .before .before .before .before .before .before .before .before .before .before .before .before .loop-test .taken), c .before .before .before .before .before .word-place .ensures .most)
 
 enum-known-count : tie.Need-enum-known-count Inv-loop μ-loop
 enum-known-count c = search needs
@@ -110,16 +113,26 @@ stopped-requires-2 : tie.Need-stopped-requires-2 Inv-loop μ-loop
 stopped-requires-2 c κs = search needs
 
 same-length-3 : tie.Need-same-length-3 Inv-loop μ-loop
-same-length-3 c = c .before .before .before .before .show .kept .1 .1 .1 .1 .1 .1 .0 ∙ c .before .before .before .before .before .before .before .before .before .before .before .before .before .before .before .before .before .before .loop .inv .3
+same-length-3 c = c .before .before .before .before .whole-line .kept .1 .1 .1 .1 .1 .1 .1 .0 ∙ c .before .before .before .before .before .before .before .before .before .before .before .before .before .before .before .before .before .before .before .before .loop .inv .3
 
 returns-3 : tie.Need-returns-3 Inv-loop μ-loop
-returns-3 c = c .before .before .before .before .before .before .before .before .before .before .before .before .before .before .before .before .before .before .loop .inv .6 _ _ (runs-show-not (ltb-true _ _ (c .before .before .before .before .before .before .before .before .before .before .before .before .before .before .before .before .if1 .taken)) _ (c .before .before .before .before .before .before .before .before .before .before .before .before .before .before .before .line-head .ensures) _ _ (c .before .before .before .before .before .before .before .before .before .before .before .before .before .name2 .given .1) _ (c .before .before .before .before .before .before .before .before .before .word-place .ensures) _ _ _ _ (c .before .before .before .before .show .ensures) (c .before .match3 .keys2) _ (c .stopped2 .ensures))
+returns-3 c = c .before .before .before .before .before .before .before .before .before .before .before .before .before .before .before .before .before .before .before .before .loop .inv .6 _ _ (runs-whole-not (ltb-true _ _ (c .before .before .before .before .before .before .before .before .before .before .before .before .before .before .before .before .before .before .if1 .taken)) _ (c .before .before .before .before .before .before .before .before .before .before .before .before .before .before .before .before .before .line-head .ensures) _ _ (c .before .before .before .before .before .before .before .before .before .before .before .before .before .before .before .w .given .1) (omega (arith, c .before .before .before .before .before .before .before .before .before .before .before .before .before .before .before .before .before .before .before .loop-test .taken)) _ (c .before .before .before .before .before .before .before .before .before .before .before .named .ensures) _ (c .before .before .before .before .before .before .before .before .before .before .word-place .ensures) _ _ _ _ _ (c .before .before .before .before .whole-line .ensures) (c .before .match3 .keys2) _ (c .stopped2 .ensures))
 
 loop-less-2 : tie.Need-loop-less-2 Inv-loop μ-loop
-loop-less-2 c = omega (arith, c .before .before .before .before .before .before .before .before .before .before .before .before .before .before .before .before .before .before .loop-test .taken)
+loop-less-2 c = omega (arith, c .before .before .before .before .before .before .before .before .before .before .before .before .before .before .before .before .before .before .before .before .loop-test .taken)
 
 loop-again-2 : tie.Need-loop-again-2 Inv-loop μ-loop
-loop-again-2 c = (c .before .before .before .before .before .before .before .before .before .before .before .before .before .before .before .before .before .before .before .loop .inv .0, omega (arith, c .before .before .before .before .before .before .before .before .before .before .before .before .before .before .before .before .before .before .before .loop .inv .1), omega (arith, c .before .before .before .before .before .before .before .before .before .before .before .before .before .before .before .before .before .before .loop-test .taken), c .before .before .before .before .before .show .kept .1 .1 .1 .1 .1 .1 .0 ∙ c .before .before .before .before .before .before .before .before .before .before .before .before .before .before .before .before .before .before .before .loop .inv .3, shown-count _ _ _ _ _ _ _ _ _ _ (c .before .before .before .before .before .show .ensures) (c .before .before .before .before .before .before .before .before .before .before .before .before .before .before .before .before .before .before .before .loop .inv .4) .0, omega (arith, shown-count _ _ _ _ _ _ _ _ _ _ (c .before .before .before .before .before .show .ensures) (c .before .before .before .before .before .before .before .before .before .before .before .before .before .before .before .before .before .before .before .loop .inv .4) .1, c .before .before .before .before .before .before .before .before .before .before .before .before .before .before .before .before .before .before .before .loop .inv .5), λ q o k. c .before .before .before .before .before .before .before .before .before .before .before .before .before .before .before .before .before .before .before .loop .inv .6 q o (runs-show (ltb-true _ _ (c .before .before .before .before .before .before .before .before .before .before .before .before .before .before .before .before .before .if1 .taken)) _ (c .before .before .before .before .before .before .before .before .before .before .before .before .before .before .before .before .line-head .ensures) _ _ (c .before .before .before .before .before .before .before .before .before .before .before .before .before .before .name2 .given .1) _ (c .before .before .before .before .before .before .before .before .before .before .word-place .ensures) _ _ _ _ (c .before .before .before .before .before .show .ensures) (omega (arith, c .before .before .before .before .before .before .before .before .before .before .before .before .before .before .before .before .before .before .before .loop .inv .1)) (omega (arith, c .before .before .before .before .before .before .before .before .before .before .before .before .before .before .before .before .before .before .loop-test .taken)) _ _ (c .before .count .given .1) q o k))
+loop-again-2 c =
+    let before = c .before .before .before .before .before .before .before .before .before .before .before .before .before .before .before .before .before .before .before .before .before .loop .inv in
+    let count = whole-count _ _ _ _ _ _ _ _ _ _ _ _ _ (c .before .before .before .before .before .whole-line .ensures) (before .4) in (
+      before .0,
+      omega (arith, before .1),
+      omega (arith, c .before .before .before .before .before .before .before .before .before .before .before .before .before .before .before .before .before .before .before .before .loop-test .taken),
+      c .before .before .before .before .before .whole-line .kept .1 .1 .1 .1 .1 .1 .1 .0 ∙ before .3,
+      count .0,
+      omega (arith, count .1, before .5),
+      λ q o k. before .6 q o (runs-whole (ltb-true _ _ (c .before .before .before .before .before .before .before .before .before .before .before .before .before .before .before .before .before .before .before .if1 .taken)) _ (c .before .before .before .before .before .before .before .before .before .before .before .before .before .before .before .before .before .before .line-head .ensures) _ _ (c .before .before .before .before .before .before .before .before .before .before .before .before .before .before .before .before .w .given .1) (omega (arith, c .before .before .before .before .before .before .before .before .before .before .before .before .before .before .before .before .before .before .before .before .loop-test .taken)) _ (c .before .before .before .before .before .before .before .before .before .before .before .before .named .ensures) _ (c .before .before .before .before .before .before .before .before .before .before .before .word-place .ensures) _ _ _ _ _ (c .before .before .before .before .before .whole-line .ensures) (omega (arith, before .1)) _ _ (c .before .count .given .1) q o k),
+    )
 
 run-answer-requires-2 : tie.Need-run-answer-requires-2 Inv-loop μ-loop
 run-answer-requires-2 c κs = search needs
@@ -161,11 +174,12 @@ run-lines-spec =
     array-set-from-t
     loop-less
     loop-again
-    enum-known-name-2
+    enum-known-w
+    named-requires
     word-place-requires
-    mul-show
-    array-copy-out-show
-    show-requires
+    mul-whole-line
+    array-copy-out-whole-line
+    whole-line-requires
     enum-known-count
     stopped-requires-2
     same-length-3

@@ -1,0 +1,122 @@
+-- What a line that is read whole comes to in the machine, by what the code answers of it. Assumes nothing.
+use Prim.Native.Nat.{ℕ, _+_, _≤_}
+use native.Mathlib.Omega.{arith}
+use mathlib.Core.Path.{_≡_, refl, sym, ap, subst, _∙_}
+use mathlib.Core.Bool.{true}
+use mathlib.Core.List.{List, [], _∷_, _++_}
+use mathlib.Core.Option.{Option, none, some}
+use lib.ListN.{length, getD, length-append}
+use lib.Ieee.{Float}
+use Rattle.numbers.specs.Lengths.{metres}
+use Rattle.frames.specs.declared.Ellipsoid.{Ellipsoid}
+use Rattle.sheets.specs.declared.Value.{Value}
+use Rattle.sheets.specs.declared.Value.the-variants.{Metres}
+use Rattle.sheets.specs.declared.rows.value.Slot.{Slot}
+use Rattle.sheets.specs.declared.reader.lines.NameAt.{NameAt}
+use Rattle.sheets.specs.declared.reader.lines.WholeLine.{WholeLine}
+use Rattle.sheets.specs.declared.Evaluated.{Evaluated}
+use Rattle.sheets.specs.Text.{Word, ascii}
+use Rattle.sheets.specs.Trees.{Line, show-line, total-line}
+use Rattle.sheets.specs.Names.{lookup}
+use Rattle.sheets.specs.Limits.{inLimit}
+use Rattle.sheets.specs.Entries.{Entry, shown as entry, summed, entryName, entryValue, entryLine, entryLines, total}
+use Rattle.sheets.specs.Machine.{Out, goes, after, then as thenᵒ, met, meet, State, write, step}
+use Rattle.sheets.specs.Answers.{laid}
+use Rattle.sheets.specs.code.reader.Codes.{letter, wordChar, codeOf}
+use Rattle.sheets.specs.code.reader.Reader.{got, charsIf, chars, wordIf, readWord, readLine}
+use Rattle.sheets.specs.code.reader.Views.{WholeAt}
+use Rattle.sheets.specs.code.check.Newest as Search
+use Rattle.sheets.specs.code.run.Known.{wordFound, foundAt}
+use Rattle.sheets.specs.code.run.Keeping.{EntryKept, shows, EntriesKept}
+use Rattle.sheets.specs.code.run.Evaluating.{evaluated}
+use Rattle.sheets.specs.code.run.Wholes.{wordNamed, TestedLine, KeptIf, Shown, ShownAs, Wholly, WholeRuns}
+use Rattle.sheets.proofs.reader.Slices.{show-word, word-is}
+use Rattle.sheets.proofs.run.TextBound.{line-length, word-length, entries-last}
+use Rattle.sheets.proofs.run.LineText.{line-laid}
+use Rattle.sheets.proofs.run.ListedLaws.{listed-at, found-kept}
+use Rattle.sheets.proofs.run.EntryLaws.{shows-append, entries-show, entries-total, total-show, total-total}
+use Rattle.sheets.proofs.run.RunParts.{NotIs}
+use Rattle.sheets.proofs.run.WholeParts.{tested-not, tested-is}
+use Rattle.sheets.proofs.run.Stages.{Stage, Now}
+
+-- the machine's state behind the line, what is kept of its shows, and its text
+pub record Behind (h : Stage) (d : List ℕ) (st st′ : State) (shown : List ℕ) (sum : Float) (count : ℕ) (out : List ℕ) : Type 0 where
+  pub surface : st′ .ellipsoid ≡ st .ellipsoid
+  pub known : st′ .scope .known ≡ st .scope .known
+  pub kept : EntriesKept (st′ .entries) shown (h .kinds) (h .floats) (h .n)
+  pub sums : metres sum ≡ total (st′ .entries)
+  pub few : shows (st′ .entries) ≤ shows (st .entries) + 1
+  pub counted : count ≡ length (entryLines (st′ .entries))
+  pub bound : count ≤ h .written + 223
+  pub text : out ≡ laid (entryLines (st′ .entries)) d
+
+-- the line does not go on, and nothing is written; or the machine goes on to a state behind it
+pub record Comes (h : Stage) (d : List ℕ) (st : State) (l : Line) (r : Evaluated) (shown : List ℕ) (sum : Float) (out : List ℕ) : Type 0 where
+  pub stays : NotIs r → (o : Out Value) × (k : Value → Out State) × (step (h .line) st l ≡ thenᵒ o k) × (r ≡ evaluated o 0) × (out ≡ h .out)
+  pub goes-on : (kind count : ℕ) → r ≡ Evaluated.Is kind count → (st′ : State) × (step (h .line) st l ≡ goes [] st′) × Behind h d st st′ shown sum count out
+
+module _ {s : List ℕ} {e : Ellipsoid} {rs : List Float} {d : List ℕ} {h : Stage} {ls : List Line} {st : State} (now : Now s e rs d h ls st) (high : h .line ≤ 96)
+    (r : Evaluated) (shown : List ℕ) (sum : Float) (out : List ℕ) where
+  abbrev Comes-to : Line → Type 0
+  Comes-to l = Comes h d st l r shown sum out
+
+  -- a line that writes an entry, whose name stands in t, and tests its value
+  entry-comes : (l : Line) (a : Entry) (k : Value → Out State) → step (h .line) st l ≡ thenᵒ (met (entryValue a)) k → k (entryValue a) ≡ goes [] (write st a)
+      → (t : List ℕ) (from end : ℕ) → readWord t from ≡ got (entryName a) end → TestedLine t from end (entryValue a) (h .out) (h .written) r out
+      → shows (a ∷ []) ≤ 1
+      → (inLimit (entryValue a) ≡ true → EntriesKept (st .entries ++ (a ∷ [])) shown (h .kinds) (h .floats) (h .n) × (metres sum ≡ total (st .entries ++ (a ∷ [])))) → Comes-to l
+  entry-comes l a k es ek t from end ew tested one kept = record {
+    stays = λ n. let (er, eo, out-of) = tested-not t from end (entryValue a) (h .out) (h .written) r out tested n in (met (entryValue a), k, es, er, eo);
+    goes-on = λ kind count er.
+        let (em, inside, hw) = tested-is t from end (entryValue a) (h .out) (h .written) r out tested kind count er in
+        let text = entryLines (st .entries) in
+        let grows = entries-last (st .entries) a in
+        let (eo, ec) = line-laid t from (entryName a) end ew (entryValue a) text d out count (omega (arith, now .size, now .count, now .bound, high, now .few)) (rw (← now .text, ← now .count) hw) in
+        let len = line-length (entryName a) (entryValue a) (word-length (entryName a) (word-is t from (entryName a) end ew)) in (
+          write st a,
+          es ∙ ap (λ o. thenᵒ o k) em ∙ ap (after []) ek,
+          record {
+            surface = refl;
+            known = refl;
+            kept = kept inside .0;
+            sums = kept inside .1;
+            few = omega (arith, shows-append (st .entries) (a ∷ []), one);
+            counted = ec ∙ ap length (sym grows);
+            bound = omega (arith, ec, length-append text (entryLine a), len, now .count);
+            text = eo ∙ ap (λ (z : List ℕ). laid z d) (sym grows);
+          },
+        );
+  }
+
+  show-comes : (name : NameAt) (w : Word) → readWord s (name .from) ≡ got w (name .end) → (j : ℕ) (o : Option Value) → lookup w (st .scope .known) ≡ o
+      → ((v : Value) → o ≡ some v → EntryKept (h .kinds) (h .floats) (h .n) j v) → Shown s name o j (h .shown) (h .sum) (h .out) (h .written) r shown sum out → Comes-to (show-line w)
+  unfolding step Shown KeptIf evaluated
+  show-comes name w ew j none eo kept sh = record {
+    stays = λ n. (meet none, λ y. goes [] (write st (entry (h .line) w y)), ap (λ o. thenᵒ (meet o) (λ y. goes [] (write st (entry (h .line) w y)))) eo, sh .0, sh .3);
+    goes-on = λ kind count er. let e = sh .0 in let z : _≡_ {A = ℕ} 0 1 = cc in absurd (omega arith);
+  }
+  show-comes name w ew j (some v) eo kept sh =
+      entry-comes (show-line w) (entry (h .line) w v) _ (ap (λ o. thenᵒ (meet o) (λ y. goes [] (write st (entry (h .line) w y)))) eo) refl s (name .from) (name .end) ew (sh .0) (omega arith) (λ inside.
+      let (ej, et) = subst (λ b. KeptIf b v j (h .shown) (h .sum) shown sum) inside (sh .1) in (
+        subst (λ js. EntriesKept (st .entries ++ (entry (h .line) w v ∷ [])) js (h .kinds) (h .floats) (h .n)) (sym ej) (entries-show (st .entries) (h .shown) (h .kinds) (h .floats) (h .n) (now .kept) (omega (arith, now .few, high)) (h .line) w v j (kept v refl)),
+        ap metres et ∙ total-show (st .entries) (h .sum) (now .sums) (h .line) w v,
+      ))
+
+  total-comes : TestedLine (ascii "total") 0 5 (Metres (metres (h .sum))) (h .out) (h .written) r out → shown ≡ h .shown → sum ≡ h .sum → Comes-to total-line
+  unfolding step readWord wordIf chars charsIf letter wordChar
+  total-comes tested ej et =
+      entry-comes total-line (summed (total (st .entries))) _ refl refl (ascii "total") 0 5 refl (subst (λ l. TestedLine (ascii "total") 0 5 (Metres l) (h .out) (h .written) r out) (now .sums) tested) (omega arith) (λ inside. (
+        subst (λ js. EntriesKept (st .entries ++ (summed (total (st .entries)) ∷ [])) js (h .kinds) (h .floats) (h .n)) (sym ej) (entries-total (st .entries) (h .shown) (h .kinds) (h .floats) (h .n) (now .kept) (total (st .entries))),
+        ap metres et ∙ total-total (st .entries) (h .sum) (now .sums) (total (st .entries)),
+      ))
+
+  -- by its form: the line l stands there, its word at the place j among the names
+  pub whole-comes : (y : WholeLine) (l : Line) (n : ℕ) → WholeAt (h .at) y l → readLine s (h .at) ≡ got l n → (j : ℕ) → Search.Placed (h .words) (h .newest) (wordNamed y) j → (x : Slot)
+      → WholeRuns s y j (getD (h .slots) j x .value) (h .floats) (h .shown) (h .sum) (h .out) (h .written) r shown sum out → Comes-to l
+  unfolding Wholly wordNamed
+  whole-comes (WholeLine.Show name) l n (w, hw, en, el) er j hj x hr =
+      let ew = subst (λ (z : NameAt). readWord s (z .from) ≡ got w (z .end)) (sym en) (show-word s (h .at) w n (subst (λ l. readLine s (h .at) ≡ got l n) el er)) in
+      let ec : codeOf w ≡ name .code = ap (λ (z : NameAt). z .code) (sym en) in
+      let known = now .tabled .is w hw ∙ ap (wordFound (h .slots) rs (h .n)) ec ∙ sym (listed-at (h .slots) rs (h .words) (h .kinds) (h .newest) (h .floats) (h .n) (now .listed) (name .code) j hj x) in
+      subst Comes-to (sym el) (show-comes name w ew j _ known (λ v ev. found-kept (h .slots) rs (h .words) (h .kinds) (h .newest) (h .floats) (h .n) (now .listed) (now .kept .reading) (name .code) j hj x v ev) (hr .is .is))
+  whole-comes WholeLine.Total l n el er j hj x hr = subst Comes-to (sym el) (total-comes (hr .is .0) (hr .is .1) (hr .is .2))

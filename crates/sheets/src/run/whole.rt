@@ -1,0 +1,150 @@
+// The lines that are read whole: what each writes, and what is kept of it.
+use crate::Evaluated;
+use crate::Value;
+use crate::reader::lines::NameAt;
+use crate::reader::lines::WholeLine;
+use crate::rows::limits::in_limit;
+use crate::rows::value::Slot;
+use crate::rows::value::kind_of;
+use crate::run::readings::reading_index;
+use crate::run::text::output_line;
+use numbers::Length;
+ghost use mathlib.Core.Path.{_≡_};
+ghost use mathlib.Core.Option.{some};
+ghost use Prim.Native.Nat.{_≤_};
+ghost use lib.ListN.{getD};
+ghost use Rattle.numbers.specs.Lengths.{metres};
+ghost use Rattle.sheets.specs.declared.Value.the-variants.{Metres};
+ghost use Rattle.sheets.specs.Text.{ascii};
+ghost use Rattle.sheets.specs.Letters.{𝐥, held};
+ghost use Rattle.sheets.specs.Entries.{plus};
+ghost use Rattle.sheets.specs.code.run.Keeping.{keep};
+ghost use Rattle.sheets.specs.code.run.Known.{foundAt};
+ghost use Rattle.sheets.specs.code.run.Wholes.{wordNamed, TestedLine, ShownAs, WholeRuns};
+
+// The code of the line's word, 0 where it names none.
+pub fn named(line: WholeLine) -> u64
+    ensures { λ r. ⌜ r ≡ wordNamed line ⌝ }
+{
+    match line {
+        WholeLine::Show(name) => name.code,
+        WholeLine::Total => 0,
+    }
+}
+
+// A value is tested, and its line written under the name that stands in `s` from `from` to `end`: the kind's code, and the bytes then written. Where refusal 7 meets it, nothing is written.
+fn tested_line(
+    s: &[u8],
+    from: usize,
+    end: usize,
+    v: Value,
+    out: &mut [u8],
+    written: usize,
+) -> Evaluated
+    ensures { λ r. ⌜ TestedLine (now (s .entry)) from end v (now (out .entry)) written r (now (out .exit)) ⌝ }
+{
+    if in_limit(v) {
+        let kind = kind_of(v);
+        let n = output_line(s, from, end, v, out, written);
+        return Evaluated::Is(kind, n);
+    }
+    Evaluated::Stops(7)
+}
+
+// The place of what is shown is kept: `shown` has the number of these places first.
+fn keep(shown: &mut [u8; 96], place: usize)
+    requires { ⌜ (getD (now shown) 0 0 ≤ 94) × (place ≤ 95) ⌝ }
+    ensures { λ _. ⌜ now (shown .exit) ≡ keep (now (shown .entry)) place ⌝ }
+{
+    let count = shown[0] + 1;
+    shown[count as usize] = place as u8;
+    shown[0] = count;
+}
+
+// A sum with a value behind it: a length is added, and no other value counts.
+fn plus(sum: f64, v: Value) -> f64
+    ensures { λ r. ⌜ r ≡ plus sum (held 𝐥 v) ⌝ }
+{
+    let Value::Metres(x) = v else {
+        return sum;
+    };
+    sum + x.0
+}
+
+// A show of a value, which stands at a place among the names: its place is kept, and a length goes into the sum.
+fn show_value(
+    s: &[u8],
+    name: NameAt,
+    v: Value,
+    place: usize,
+    shown: &mut [u8; 96],
+    sum: &mut f64,
+    out: &mut [u8],
+    written: usize,
+) -> Evaluated
+    requires { ⌜ (getD (now shown) 0 0 ≤ 94) × (place ≤ 95) ⌝ }
+    ensures { λ r. ⌜ ShownAs (now (s .entry)) name (some v) place (now (shown .entry)) (now (sum .entry)) (now (out .entry)) written r (now (shown .exit)) (now (sum .exit)) (now (out .exit)) ⌝ }
+{
+    let r = tested_line(s, name.from, name.end, v, out, written);
+    let Evaluated::Is(kind, n) = r else {
+        return r;
+    };
+    keep(shown, place);
+    *sum = plus(*sum, v);
+    Evaluated::Is(kind, n)
+}
+
+// A show of a word, by its place j and the slot x there: of what the slot holds, or of a reading, whose place is 0.
+fn show(
+    s: &[u8],
+    name: NameAt,
+    j: usize,
+    x: Slot,
+    floats: &[f64; 2940],
+    shown: &mut [u8; 96],
+    sum: &mut f64,
+    out: &mut [u8],
+    written: usize,
+) -> Evaluated
+    requires { ⌜ (getD (now shown) 0 0 ≤ 94) × (j ≤ 95) ⌝ }
+    ensures { λ r. ⌜ ShownAs (now (s .entry)) name (foundAt (x .value) (now (floats .entry)) (name .code) j) j (now (shown .entry)) (now (sum .entry)) (now (out .entry)) written r (now (shown .exit)) (now (sum .exit)) (now (out .exit)) ⌝ }
+{
+    let mut v = x.value;
+    if j == 0 {
+        let i = reading_index(name.code);
+        if 16 <= i {
+            return Evaluated::Sticks;
+        }
+        v = Value::Number(floats[i]);
+    }
+    show_value(s, name, v, j, shown, sum, out, written)
+}
+
+// A total: the sum of the lengths shown, tested as an l.
+fn total(sum: f64, out: &mut [u8], written: usize) -> Evaluated
+    ensures { λ r. ⌜ TestedLine (ascii "total") 0 5 (Metres (metres sum)) (now (out .entry)) written r (now (out .exit)) ⌝ }
+{
+    let v = Value::Metres(Length::from_metres(sum));
+    tested_line(b"total", 0, 5, v, out, written)
+}
+
+// A line, where its word stands at the place j and x is the slot there.
+pub fn whole_line(
+    s: &[u8],
+    line: WholeLine,
+    j: usize,
+    x: Slot,
+    floats: &[f64; 2940],
+    shown: &mut [u8; 96],
+    sum: &mut f64,
+    out: &mut [u8],
+    written: usize,
+) -> Evaluated
+    requires { ⌜ (getD (now shown) 0 0 ≤ 94) × (j ≤ 95) ⌝ }
+    ensures { λ r. ⌜ WholeRuns (now (s .entry)) line j (x .value) (now (floats .entry)) (now (shown .entry)) (now (sum .entry)) (now (out .entry)) written r (now (shown .exit)) (now (sum .exit)) (now (out .exit)) ⌝ }
+{
+    match line {
+        WholeLine::Show(name) => show(s, name, j, x, floats, shown, sum, out, written),
+        WholeLine::Total => total(*sum, out, written),
+    }
+}
