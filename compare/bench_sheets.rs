@@ -54,6 +54,12 @@ fn frames(lines: usize) -> String {
     HEAD.to_string() + "(let f (enu (geo (m 4300000) (m 600000) (m 4600000))))\n" + &"(show f)\n".repeat(lines - 2)
 }
 
+// Shows of one length, every fourth line a total.
+fn totals(lines: usize) -> String {
+    let line = |i: usize| if i % 4 == 0 { "(total)\n" } else { "(show casing)\n" };
+    HEAD.to_string() + "(let casing (m 3.05))\n" + &(3..=lines).map(line).collect::<String>()
+}
+
 // A site's sheet of 96 lines with lines changed: what it is refused for, and at which line.
 fn refused() -> Vec<(String, (u32, u32))> {
     let site = site(96);
@@ -127,8 +133,13 @@ fn table(name: &str, make: fn(usize) -> String, best: &[Times; 4]) {
 }
 
 // The sorts of sheets.
-const SORTS: [(&str, fn(usize) -> String); 4] =
-    [("a site's sheet", site), ("one bracket a line", brackets), ("shows of readings", shows), ("shows of a frame", frames)];
+const SORTS: [(&str, fn(usize) -> String); 5] = [
+    ("a site's sheet", site),
+    ("one bracket a line", brackets),
+    ("shows of readings", shows),
+    ("shows of a frame", frames),
+    ("shows and totals", totals),
+];
 
 fn profile((name, make): (&str, fn(usize) -> String)) {
     let (text, mut out) = (make(96), vec![0; 24576]);

@@ -18,6 +18,8 @@ mod stored;
 mod tally;
 #[path = "sheet/text.rs"]
 mod text;
+#[path = "sheet/totals.rs"]
+mod totals;
 
 use beside::Beside;
 use make::{Made, Maker, table};

@@ -15,6 +15,7 @@ from pathlib import Path
 from tried_cases import WGS84, bits, joined, passes, refused, shown, stops
 from tried_lending import lending
 from tried_table import NO_ROWS, TABLE
+from tried_totals import TOTAL, totals
 
 POLE = "(ellipsoid 6400000 128)"
 NAN = 0x7FF8000000000000
@@ -244,10 +245,16 @@ def whole_turn():
         yield passes(lines, "g" + " fbody" * 4, shown("f", "fbody", *fields) + shown("g", "fbody", *fields), {0: bits(west)})
 
 
+def first_totalled():
+    """Request Two on the first sheet: frames and vectors are no lengths."""
+    kinds = "d fenu venu vned venu l fenu vned venu l"
+    yield passes(FIRST[:6] + [TOTAL] + FIRST[6:] + [TOTAL], kinds, shown("total", "l", 0.0) + FIRST_TEXT + shown("total", "l", 0.0))
+
+
 def main(folder):
     count = 0
     with open(folder / "stdin", "w") as given, open(folder / "stdout", "w") as expected:
-        for cases in sheets_to_try, sizes, lending, grammar, order, stopping, showing, operators, table, whole_turn:
+        for cases in sheets_to_try, sizes, lending, grammar, order, stopping, showing, operators, table, whole_turn, totals, first_totalled:
             for sheet, said in cases():
                 given.write(sheet)
                 expected.write(said)

@@ -42,6 +42,17 @@ HEADS = [
     "(ellipsoid 1.1234567 1)", "(ellipsoid 1 1.1234567)", "(ellipsoid -999999999.999999 -999999999.999999)", "(ellipsoid 00 00)", "(ellipsoid a 1)", "(ellipsoid 1 a)",
     "(ellipsoid 1 (a))", "(ellipsoid 1 1", "(ellipsoid 1 1))", "(let a 1)", "(show a)", "\xef\xbb\xbf" + WGS, "(ellipsoid\0wgs84)", WGS + "\0",
 ]
+# Totals and what is nearly one, and other lines that have their word.
+TOTALS = """
+(total) (total total (total)) ((total)) (total)(total) (total)(show () (tota) (totals) (total1) (1total) (Total) (TOTAL) (totaL) (total.) (total-) (-total) (total_)
+[total] (total] (total;) (total)# #(total) (tot (t) (totaltotal) (total(a)) (total"") (sum) (tally)
+""".split() + [
+    "(total )", "(total  )", "( total)", "( total )", " (total)", "(total) ", "(total\t)", "(\ttotal)", "(total)\t", "(total\r)", "(total)\r", "(total\0)", "(total)\0",
+    "\0(total)", "(to tal)", "(total\x80)", "\xef\xbb\xbf(total)", "(total 1)", "(total -0)", "(total a)", "(total r0)", "(total l)", "(total total)", "(total (a))",
+    "(total (total))", "(total a b)", "(total) (total)", "(total) (show a)", "(total)(show a)", "(show a)(total)", "(total\n)", "(total\n", "total a)", "(let total)", "(let total 1)",
+    "(let total (m 1))", "(let total total)", "(let a total)", "(let a (total))", "(let a (total 1))", "(let a (m (total)))", "(let totals 1)", "(let (total) 1)", "(let total)(total)",
+    "(show total)", "(show totals)", "(show (total))", "(show total )", "(show total total)", "(show total", "(show a total)", "(let total 1 )",
+]
 
 
 def nested(depth):
@@ -85,15 +96,29 @@ def every_byte():
     return [bytes([b]) for b in range(256)] + [ended([WGS, text % chr(b)]) for text in lines for b in range(256)]
 
 
-def every_place(seed):
+def every_place(seed, lines):
     """A good sheet with a byte changed, put in or taken out at every place."""
     r = Random(seed)
-    sheet = ended(["(ellipsoid 6400000 128.5)", "(let p (lla (deg 90) -0.5 (m r0)))", "(show p)"])
+    sheet = ended(lines)
     sheets = []
     for at in range(len(sheet)):
         new = bytes([ord(r.pick("() \n-.a0zA"))])
         sheets += [sheet[:at] + new + sheet[at + 1 :], sheet[:at] + new + sheet[at:], sheet[:at] + sheet[at + 1 :]]
     return sheets
+
+
+def totals(seed):
+    """Totals on every line that there may be, nearly totals, and each byte and place of one."""
+    total = "(total)"
+    sheets = [[WGS, text, "(show a)"] for text in TOTALS] + [[WGS, "(show a)", total, text, total] for text in TOTALS]
+    sheets += [[text, total] for text in (total, "", "(ellipsoid total)", "(ellipsoid wgs84)(total)", "(ellipsoid 1 total)")]
+    sheets += [[WGS, long_line(200), total], [WGS, total, long_line(201), total], [WGS, "(total%s)" % (" " * 192)], [WGS, total + " " * 192], [WGS, "(total%s)" % (" a" * 96)]]
+    sheets += [many(n, total) for n in (2, 3, 95, 96, 97, 98)] + [many(95) + [total], many(96) + [total], many(96, total) + ["(show a)"], many(50, total) + many(47)[1:]]
+    made = [ended(lines) for lines in sheets]
+    made += [ended(many(n, total))[:-1] for n in (2, 96, 97)] + [ended(many(96)) + b"(total)", ended(many(2)) + b"(total)", ended(many(3, total)) + b"\n"]
+    made += [ended(many(3, total)).replace(b"\n", b"\r\n"), ended(many(3, total)).replace(b"\n", b""), b"(total)\n", b"(total)"]
+    made += [ended([WGS, text % chr(b)]) for text in ("(tota%s)", "(total%s") for b in range(256)]
+    return made + every_place(seed, [WGS, "(let total (m 1))", "(show total)", total, total])
 
 
 def edges(seed):
@@ -105,5 +130,6 @@ def edges(seed):
         "lengths": lengths(),
         "counts": counts() + full(),
         "every byte": every_byte(),
-        "every place": every_place(seed),
+        "every place": every_place(seed, ["(ellipsoid 6400000 128.5)", "(let p (lla (deg 90) -0.5 (m r0)))", "(show p)"]),
+        "totals": totals(seed),
     }

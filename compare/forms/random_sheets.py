@@ -1,4 +1,4 @@
-"""Sheets at random: over the whole grammar, with a part made wrong, edited, of tokens, of bytes."""
+"""Sheets at random: over the whole grammar, with a part made wrong, edited, of tokens, of bytes; and with totals, likewise."""
 
 LETTERS = "abcdefghijklmnopqrstuvwxyz"
 DIGITS = "0123456789"
@@ -12,6 +12,7 @@ TOKENS = ["(", ")", " ", "\n", "(let ", "(show ", "(ellipsoid ", "let", "wgs84",
 WRONG_WORDS = ["", "A", "aB", "1a", "a_b", "a-b", "-a", "a.b", "abcdefghijklm", "a23456789012z"]
 WRONG_NUMS = ["-", "--1", "+1", "1.", ".5", "-.5", "1234567890", "1.1234567", "1e3", "1.2.3", "1-", "1,5"]
 WRONG_FORMS = ["()", "( a)", "(a )", "(a  b)", "(a\tb)", "(a b c d e f g)", "((a))", "(1)", "(a", "a)", "(a))", "(a)(b)", "(a(b))", "(a (b)c)", "a b", "[a]"]
+WRONG_TOTALS = ["tota", "totals", "Total", "TOTAL", "total ", " total", "t", "tot al", "sum", "-total", "total.", "total1", "(total)", ""]
 
 
 class Random:
@@ -150,10 +151,10 @@ def wrong(r):
     return ended(lines)
 
 
-def edited(r):
-    """A good sheet with one byte put in, taken out or changed, or two exchanged."""
-    sheet = bytearray(good(r))
-    at = r.below(len(sheet))
+def edit(r, sheet, start=0):
+    """The sheet with one byte from `start` on put in, taken out or changed, or two exchanged."""
+    sheet = bytearray(sheet)
+    at = start + r.below(len(sheet) - start)
     byte = r.below(256) if r.often(30) else ord(r.pick("() \n-.a0z9A"))
     way = r.below(4)
     if way == 0:
@@ -167,9 +168,17 @@ def edited(r):
     return bytes(sheet)
 
 
-def tokens(r):
+def edited(r):
+    return edit(r, good(r))
+
+
+def of_tokens(r, lines, tokens):
     start = r.pick(["", "(ellipsoid wgs84)\n", "(ellipsoid wgs84)\n(let a "])
-    return (start + "".join(r.pick(LINES if r.often(50) else TOKENS) for _ in range(1 + r.below(8)))).encode()
+    return (start + "".join(r.pick(lines if r.often(50) else tokens) for _ in range(1 + r.below(8)))).encode()
+
+
+def tokens(r):
+    return of_tokens(r, LINES, TOKENS)
 
 
 def any_bytes(r):
@@ -177,4 +186,46 @@ def any_bytes(r):
     return start + bytes(r.below(256) for _ in range(1 + r.below(20)))
 
 
-SORTS = {"good": good, "a part wrong": wrong, "edited": edited, "tokens": tokens, "bytes": any_bytes}
+def lines_with_totals(r):
+    """Good lines with totals anywhere among them, and with their word as a name."""
+    lines = good_lines(r)[:90]
+    for _ in range(1 + r.below(4)):
+        text = "(total)" if r.often(75) else r.pick(["(show total)", "(let total %s)" % leaf(r), "(let %s (m total))" % word(r)])
+        lines.insert(1 + r.below(len(lines)), text)
+    return lines
+
+
+def with_totals(r):
+    return ended(lines_with_totals(r))
+
+
+def wrong_total(r):
+    """A sheet with totals, and a line among them that is nearly one."""
+    lines = lines_with_totals(r)
+    inner = r.pick([" " + leaf(r), " " + any_expr(r), r.pick(LETTERS + DIGITS), r.pick(" \t\r\0().-")])
+    text = r.pick(["(total%s)" % inner, "(total)%s" % inner, "%s(total)" % inner, "(%s)" % r.pick(WRONG_TOTALS), "(let total %s)" % wrong_expr(r), "(show total%s)" % inner])
+    lines.insert(1 + r.below(len(lines)), text)
+    return ended(lines)
+
+
+def edited_total(r):
+    """A sheet that ends with a total, edited there."""
+    sheet = with_totals(r)
+    return edit(r, sheet + b"(total)\n", len(sheet))
+
+
+def total_tokens(r):
+    return of_tokens(r, LINES + ["(total)\n"], TOKENS + ["(total", "total", "(total)"])
+
+
+SORTS = {
+    "good": good,
+    "a part wrong": wrong,
+    "edited": edited,
+    "tokens": tokens,
+    "bytes": any_bytes,
+    "with totals": with_totals,
+    "a total wrong": wrong_total,
+    "a total edited": edited_total,
+    "tokens of totals": total_tokens,
+}

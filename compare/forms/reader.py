@@ -1,4 +1,4 @@
-"""A reader of sheets, by document 01's section on a sheet's bytes.
+"""A reader of sheets, by document 01's section on a sheet's bytes and the line of document 02's request Two.
 
 It uses nothing of crates/sheets, neither code nor definitions, and goes another way: the sheet
 is cut at its LFs first, and in an expression the brackets that hold no bracket are taken away,
@@ -15,6 +15,7 @@ GONE = b"#"
 
 LET = re.compile(rb"\(let (%s) (.+)\)" % WORD, re.DOTALL)
 SHOW = re.compile(rb"\(show (%s)\)" % WORD)
+TOTAL = re.compile(rb"\(total\)")
 WGS84 = re.compile(rb"\(ellipsoid wgs84\)")
 CUSTOM = re.compile(rb"\(ellipsoid (%s) (%s)\)" % (NUM, NUM))
 ONE = re.compile(rb"%s|%s|%s" % (WORD, NUM, GONE))
@@ -68,6 +69,8 @@ def other_line(text):
     found = LET.fullmatch(text)
     if found and is_expr(found[2]) and deepest(text) <= 12:
         return "let %s %s" % (found[1].decode(), shown(found[2]))
+    if TOTAL.fullmatch(text):
+        return "total"
     return None
 
 

@@ -4,6 +4,7 @@ use crate::make::{Made, Sort};
 use crate::random::Random;
 use crate::sheet::words::Op;
 use crate::sheet::{LINES, OUTPUT, READINGS, check_with, run_with};
+use crate::totals::{self, Totals};
 use reference::request_one::met_during;
 use std::fmt::{Display, Formatter, Result};
 use std::slice;
@@ -67,6 +68,7 @@ pub struct Compared {
     pub run: Answer,
     // whether the interpreter's run meets the line of request One
     pub request_one: bool,
+    pub totals: Totals,
     pub differences: Vec<String>,
 }
 
@@ -93,11 +95,11 @@ impl Beside {
         let lengths = if made.sort != Sort::Table && r.below(16) == 0 { wrong(r, &mut made) } else { RIGHT };
         let mut differences = Vec::new();
         let check = self.check(&made, lengths[0], met, &mut differences);
-        let (request_one, run) = met_during(|| self.run(&made, lengths, applied, &mut differences));
+        let (request_one, (run, totals)) = met_during(|| self.run(&made, lengths, applied, &mut differences));
         if made.sort.is_admitted() && lengths == RIGHT && check.number != 0 {
             differences.push("the interpreter refuses a sheet made to pass".to_string());
         }
-        Compared { made, lengths, check, run, request_one, differences }
+        Compared { made, lengths, check, run, request_one, totals, differences }
     }
 
     fn lent<T: Copy + PartialEq>(&self, content: &[T], guard: impl Fn(u8) -> T) -> Lent<T> {
@@ -125,7 +127,7 @@ impl Beside {
         answer
     }
 
-    fn run(&self, made: &Made, [_, count, length]: [usize; 3], applied: &mut Counts, differences: &mut Vec<String>) -> Answer {
+    fn run(&self, made: &Made, [_, count, length]: [usize; 3], applied: &mut Counts, differences: &mut Vec<String>) -> (Answer, Totals) {
         let mut sheet = self.lent(&made.sheet, |b| b);
         let bits: Vec<u64> = (0..count).map(|k| made.readings[k % READINGS]).collect();
         let mut readings = self.lent(&bits, |b| b as u64);
@@ -149,7 +151,7 @@ impl Beside {
             let text = |all: &[u8]| all[out.guard..out.guard + (theirs.2 as usize).min(length)].escape_ascii().to_string().replace("\\n", "\n      ");
             differences.push(format!("run: output from {at} on\n   Rust:\n      {}\n   Rattle:\n      {}", text(&out.wanted), text(&out.all)));
         }
-        answer
+        (answer, totals::of(&made.sheet, answer, &out.wanted()[..theirs.2 as usize]))
     }
 }
 

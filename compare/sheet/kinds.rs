@@ -149,6 +149,7 @@ pub fn walk(sheet: &mut Sheet, mut code: impl FnMut(usize, u8), mut met: impl Fn
                 *place = found;
                 known.kinds[found]
             }),
+            Line::Total => Ok(L),
         };
         match kind {
             Ok(kind) => code(at + 1, kind.code()),

@@ -1,8 +1,8 @@
-// The run of an admitted sheet: values line by line, the text of its shows, refusals 7 and 8.
+// The run of an admitted sheet: values line by line, the text of its shows and totals, refusals 7 and 8.
 use super::reader::{Line, Sheet, Step};
 use super::rows::{self, Stop};
 use super::values::Value;
-use super::words::{Op, Word};
+use super::words::Op;
 use reference::Length;
 use reference::ellipsoidal::Ellipsoid;
 
@@ -11,6 +11,8 @@ struct Machine<'a> {
     // by place, the readings first
     known: Vec<Value>,
     stack: Vec<Value>,
+    // the sum of the lengths shown so far; beyond the limit it is refused only where it is to be written
+    shown: Length,
     text: Text<'a>,
 }
 
@@ -21,7 +23,8 @@ pub fn run(sheet: &Sheet, readings: &[f64], out: &mut [u8], mut applied: impl Fn
     };
     let mut known = Vec::with_capacity(readings.len() + sheet.lines.len());
     known.extend(readings.iter().map(|&n| Value::Number(n)));
-    let mut machine = Machine { earth, known, stack: Vec::with_capacity(16), text: Text { out, written: 0 } };
+    let text = Text { out, written: 0 };
+    let mut machine = Machine { earth, known, stack: Vec::with_capacity(16), shown: Length::ZERO, text };
     for (at, line) in sheet.lines.iter().enumerate() {
         if let Err(number) = machine.line(line, &sheet.steps, &mut applied) {
             return (number, at as u32 + 2, machine.text.written as u64);
@@ -42,7 +45,14 @@ impl Machine<'_> {
                 let value = self.expression(&steps[of.clone()], applied)?;
                 self.known.push(value);
             }
-            Line::Show { name, place } => self.text.show(name, &tested(self.known[*place])?),
+            Line::Show { name, place } => {
+                let value = tested(self.known[*place])?;
+                if let Value::Length(length) = value {
+                    self.shown = self.shown + length;
+                }
+                self.text.show(name.text(), &value);
+            }
+            Line::Total => self.text.show(b"total", &tested(Value::Length(self.shown))?),
         }
         Ok(())
     }
@@ -90,8 +100,8 @@ impl Text<'_> {
     }
 
     // One output line.
-    fn show(&mut self, name: &Word, value: &Value) {
-        self.put(name.text());
+    fn show(&mut self, name: &[u8], value: &Value) {
+        self.put(name);
         self.put(b" ");
         self.put(value.kind());
         value.fields(|x| self.put(&field(x)));

@@ -1,4 +1,4 @@
-// A second implementation of bore sheets, for comparison: document 01 over the published Rust, sharing nothing with the library.
+// A second implementation of bore sheets, for comparison: documents 01 and 02 over the published Rust, sharing nothing with the library.
 mod kinds;
 mod machine;
 mod reader;

@@ -22,6 +22,7 @@ pub enum Line {
     Let { name: Word, steps: Range<usize> },
     // the place is found by the check
     Show { name: Word, place: usize },
+    Total,
 }
 
 pub struct Sheet {
@@ -99,9 +100,11 @@ impl<'a> Reader<'a> {
             let first = steps.len();
             self.expression(DEPTH, steps)?;
             Line::Let { name, steps: first..steps.len() }
-        } else {
-            self.take(b"(show ")?;
+        } else if self.take(b"(show ").is_some() {
             Line::Show { name: self.word()?, place: 0 }
+        } else {
+            self.take(b"(total")?;
+            Line::Total
         };
         self.take(b")")?;
         self.end()?;

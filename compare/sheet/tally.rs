@@ -1,8 +1,9 @@
-// What the comparison of sheets has come to: counts by refusal, by sort and by operator.
+// What the comparison of sheets has come to: counts by refusal, by sort and by operator, and of totals.
 use crate::beside::{Compared, Counts};
 use crate::make::Sort;
 use crate::sheet;
 use crate::sheet::words::Op;
+use crate::totals::Totals;
 
 const NUMBERS: usize = 9;
 
@@ -16,9 +17,12 @@ pub struct Tally {
     pub applied: Counts,
     bytes: u64,
     written: u64,
-    total: u64,
+    sheets: u64,
     // those whose run meets the line of request One
     request_one: u64,
+    // those whose run writes a total, and what becomes of all totals
+    with_totals: u64,
+    totals: Totals,
     // those refused 3 at a line behind one that 4, 5 or 6 would refuse
     behind: u64,
     pub different: u64,
@@ -33,8 +37,10 @@ impl Tally {
             applied: [0; 35],
             bytes: 0,
             written: 0,
-            total: 0,
+            sheets: 0,
             request_one: 0,
+            with_totals: 0,
+            totals: Totals::default(),
             behind: 0,
             different: 0,
         }
@@ -45,8 +51,10 @@ impl Tally {
         self.run[compared.made.sort as usize][compared.run.number as usize] += 1;
         self.bytes += compared.made.sheet.len() as u64;
         self.written += compared.run.written;
-        self.total += 1;
+        self.sheets += 1;
         self.request_one += compared.request_one as u64;
+        self.with_totals += (compared.totals.written > 0) as u64;
+        self.totals.add(compared.totals);
         self.behind += (compared.check.number == 3 && refused_before(&compared.made.sheet, compared.check.line)) as u64;
         self.different += !compared.differences.is_empty() as u64;
     }
@@ -69,8 +77,10 @@ impl Tally {
             println!("{}", cells.collect::<String>());
         }
         println!("of those that the check refuses 3, behind a line that 4, 5 or 6 would refuse: {}", self.behind);
-        let Tally { bytes, written, total, request_one, different, .. } = self;
-        println!("total: {total} sheets of {bytes} bytes, {written} bytes written, {request_one} meet request One, {different} different");
+        let Totals { written, of_several, refused } = self.totals;
+        println!("sheets that write a total: {}; totals written: {written}; of two or more lengths: {of_several}; sums refused 7: {refused}", self.with_totals);
+        let Tally { bytes, written, sheets, request_one, different, .. } = self;
+        println!("total: {sheets} sheets of {bytes} bytes, {written} bytes written, {request_one} meet request One, {different} different");
     }
 }
 

@@ -55,13 +55,14 @@ fn bytes(r: &mut Random) -> Vec<u8> {
     sheet.into_bytes()
 }
 
-// About 96 lines; at times the one after them breaks off.
+// About 96 lines; at times one more follows, or breaks off.
 fn lines(r: &mut Random) -> Vec<u8> {
     let count = r.pick(&[94, 95, 95, 95, 96, 96, 97, 120]);
     let mut sheet = FIRST.to_string();
     for k in 0..count {
-        match r.below(4) {
+        match r.below(6) {
             0 => sheet.push_str(&format!("(let n{k} {k})\n")),
+            1 => sheet.push_str("(total)\n"),
             _ => sheet.push_str(&format!("(show r{})\n", r.below(16))),
         }
     }
@@ -70,6 +71,7 @@ fn lines(r: &mut Random) -> Vec<u8> {
         1 => sheet.push('\n'),
         2 => sheet.push_str("(show r0)"),
         3 => sheet.truncate(sheet.len() - 1),
+        4 => sheet.push_str("(total)\n"),
         _ => (),
     }
     // and at times an earlier one is bad

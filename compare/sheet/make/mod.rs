@@ -6,14 +6,16 @@ mod expressions;
 mod north;
 mod numerals;
 pub mod table;
+mod totals;
 
 use crate::random::Random;
-use crate::sheet::READINGS;
+use crate::sheet::{LINES, READINGS};
 use crate::sheet::words::Op;
 use reference::Length;
 use reference::ellipsoidal::Ellipsoid;
 use expressions::{F, KINDS, Kind, Mood, Name, Rows, Writer};
 use numerals::Role;
+use totals::Sizes;
 
 #[derive(Clone, Copy, PartialEq, Eq, Debug)]
 pub enum Sort {
@@ -138,8 +140,8 @@ impl Earth {
     }
 }
 
-const WORDS: [&str; 22] = [
-    "let", "show", "ellipsoid", "wgs84", "r16", "r00", "r", "r1a", "fenu", "g", "d", "n", "abcdefghijkl", "abcdefghijkm", "abcdefghijk", "z0123456789a", "mm",
+const WORDS: [&str; 24] = [
+    "let", "show", "ellipsoid", "wgs84", "total", "totals", "r16", "r00", "r", "r1a", "fenu", "g", "d", "n", "abcdefghijkl", "abcdefghijkm", "abcdefghijk", "z0123456789a", "mm",
     "to0", "degg", "de", "venus", "rr0",
 ];
 
@@ -219,23 +221,35 @@ impl Maker {
             Sort::Centre => Mood::Centre,
             _ => Mood::Ordinary,
         };
-        let lines = match sort {
+        let mut lines = match sort {
             Sort::Long => 13 + r.below(84),
             _ => 1 + r.pick(&[0, 1, 2, 3, 4, 5, 6, 7, 8, 9, 10, 11]).min(r.below(16)),
         };
+        // three sheets in eight have totals
+        let sizes = if r.below(8) < 3 { Some(Sizes::any(r)) } else { None };
+        if sizes.is_some() {
+            lines = (lines + 2 + r.below(10)).min(LINES as u64 - 1);
+        }
         let mut sheet = earth.line.clone();
         let mut names = Vec::new();
         let mut fresh = false;
         for _ in 1..lines {
-            // half of what is given is shown at once
-            if (fresh && r.coin()) || r.below(6) == 0 {
-                sheet.push_str(&show(r, &names, fresh));
-                fresh = false;
-            } else {
-                let depth = if sort == Sort::Deep { 11 } else { r.pick(&[0, 1, 1, 2, 2, 3, 4, 6]) };
-                self.given(r, earth, mood, depth, &mut names, &mut sheet);
-                fresh = true;
+            match sizes {
+                Some(sizes) if r.below(4) > 0 => totals::line(r, sizes, &mut names, &mut sheet),
+                // half of what is given is shown at once
+                _ if (fresh && r.coin()) || r.below(6) == 0 => {
+                    sheet.push_str(&show(r, &names, fresh));
+                    fresh = false;
+                }
+                _ => {
+                    let depth = if sort == Sort::Deep { 11 } else { r.pick(&[0, 1, 1, 2, 2, 3, 4, 6]) };
+                    self.given(r, earth, mood, depth, &mut names, &mut sheet);
+                    fresh = true;
+                }
             }
+        }
+        if sizes.is_some() && (r.coin() || !sheet.contains("(total)")) {
+            sheet.push_str("(total)\n");
         }
         sheet.into_bytes()
     }
