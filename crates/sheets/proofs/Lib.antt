@@ -7,9 +7,12 @@ pub mod Trace
 pub mod EveryFrame
 pub mod ClaimHolds
 pub mod ConfinedHolds
+pub mod TotalText
+pub mod TotalsHold
 pub mod OwedOnce
 pub mod Starred
 pub mod Pinned
+pub mod TriedTotals
 pub mod ByCases
 pub mod AnswerSteps
 pub mod Computed

@@ -15,6 +15,7 @@ pub mod Machine
 pub mod Check
 pub mod Admitted
 pub mod Answers
+pub mod Totals
 pub mod Confined
 pub mod Claim
 pub mod Both

@@ -30,13 +30,13 @@ count-append [] b = omega arith
 count-append (c ∷ a) b = omega (arith, count-append a b)
 
 -- ---- texts without LF
-record NoLF (s : List ℕ) : Type 0 where
-  zero-lf : countLF s ≡ 0
+pub record NoLF (s : List ℕ) : Type 0 where
+  pub zero-lf : countLF s ≡ 0
 
-_also_ : {a b : List ℕ} → NoLF a → NoLF b → NoLF (a ++ b)
+pub _also_ : {a b : List ℕ} → NoLF a → NoLF b → NoLF (a ++ b)
 _also_ {a} {b} p q = record { zero-lf = count-append a b ∙ omega (arith, p .zero-lf, q .zero-lf) }
 
-text : (t : String) → countLF (ascii t) ≡ 0 → NoLF (ascii t)
+pub text : (t : String) → countLF (ascii t) ≡ 0 → NoLF (ascii t)
 text t e = record { zero-lf = e }
 
 each-none : (P : ℕ → Type 0) → ((b : ℕ) → P b → b ≡ 10 → ⊥) → (s : List ℕ) → Each P s → NoLF s
@@ -44,7 +44,7 @@ unfolding countLF
 each-none P f [] h = record { zero-lf = refl }
 each-none P f (b ∷ s) h = record { zero-lf = rw (ne-eqb b 10 (f b (h .0))) (omega (arith, each-none P f s (h .1) .zero-lf)) }
 
-word-none : (w : Word) → IsWord w → NoLF w
+pub word-none : (w : Word) → IsWord w → NoLF w
 word-none w h = each-none (λ b. Letter b ⊎ Digit b) other w (word-chars w h)
   where
     other : (b : ℕ) → Letter b ⊎ Digit b → b ≡ 10 → ⊥

@@ -72,7 +72,7 @@ word-length (c ∷ w) t = let h = t .2 in omega arith
 
 -- ---- a line of the sheet
 
-abbrev Left : {A : Type 0} → (A → Type 0) → Out A → Type 0
+abbrev pub Left : {A : Type 0} → (A → Type 0) → Out A → Type 0
 Left P (goes fs x) = P x
 Left P (stops fs c) = Unit {0}
 Left P (sticks fs) = Unit {0}
@@ -82,7 +82,7 @@ left-after P fs (goes hs x) h = h
 left-after P fs (stops hs c) h = h
 left-after P fs (sticks hs) h = h
 
-left-then : {A B : Type 0} (P : B → Type 0) (o : Out A) (k : A → Out B) → ((x : A) → Left P (k x)) → Left P (then o k)
+pub left-then : {A B : Type 0} (P : B → Type 0) (o : Out A) (k : A → Out B) → ((x : A) → Left P (k x)) → Left P (then o k)
 left-then P (goes fs x) k h = left-after P fs (k x) (h x)
 left-then P (stops fs c) k h = tt
 left-then P (sticks fs) k h = tt
