@@ -7,6 +7,7 @@ pub mod Trace
 pub mod EveryFrame
 pub mod ClaimHolds
 pub mod ConfinedHolds
+pub mod LineWrites
 pub mod TotalText
 pub mod TotalsHold
 pub mod OwedOnce

@@ -9,6 +9,7 @@ use lib.Dec.{eqb, ltb}
 use lib.Ieee.{Float, binary64, ofBits}
 use Rattle.numbers.specs.Lengths.{metres}
 use Rattle.numbers.specs.declared.Length.{Length}
+use Rattle.sheets.specs.Text.{Word}
 use Rattle.sheets.specs.Trees.{Line, let-line, show-line, total-line}
 use Rattle.sheets.specs.Entries.{plus}
 
@@ -61,11 +62,23 @@ lengthFrom (b ∷ s) = behindL (eqb b 108) s
 abbrev pub lengthIn : List ℕ → Option Length
 lengthIn l = lengthFrom (behindSpace l)
 
--- ---- the sum so far is t: each show's length goes into it, and each total shows it. A run that was stopped has written fewer lines.
-unfoldable pub AddUp : Float → List Line → List (List ℕ) → Type 0
+-- ---- what the lines write
+
+-- an output line: a show's, under its word, or a total's; or none
+pub data Writes : Type 0 where
+  a-show : Word → Writes
+  a-total nothing : Writes
+
+abbrev pub writes : Line → Writes
+writes (let-line w x) = nothing
+writes (show-line w) = a-show w
+writes total-line = a-total
+
+-- Of lines that write so, and a text's lines, where the sum so far is t: each show's length goes into it, and each total shows it. A run that was stopped has written fewer lines.
+unfoldable pub AddUp : Float → List Writes → List (List ℕ) → Type 0
 AddUp t [] outs = Unit {0}
-AddUp t (let-line w x ∷ ls) outs = AddUp t ls outs
-AddUp t (show-line w ∷ ls) [] = Unit {0}
-AddUp t (show-line w ∷ ls) (o ∷ outs) = AddUp (plus t (lengthIn o)) ls outs
-AddUp t (total-line ∷ ls) [] = Unit {0}
-AddUp t (total-line ∷ ls) (o ∷ outs) = (lengthIn o ≡ some (metres t)) × AddUp t ls outs
+AddUp t (nothing ∷ ws) outs = AddUp t ws outs
+AddUp t (a-show w ∷ ws) [] = Unit {0}
+AddUp t (a-show w ∷ ws) (o ∷ outs) = AddUp (plus t (lengthIn o)) ws outs
+AddUp t (a-total ∷ ws) [] = Unit {0}
+AddUp t (a-total ∷ ws) (o ∷ outs) = (lengthIn o ≡ some (metres t)) × AddUp t ws outs

@@ -10,15 +10,14 @@ use Rattle.frames.specs.declared.Orientation.the-variants.{Enu, Ned, Body, Wan}
 use Rattle.sheets.specs.declared.Value.{Value}
 use Rattle.sheets.specs.declared.Value.the-variants.{Number, Radians, Metres, Geocentric, Geodetic, Vector, Frame}
 use Rattle.sheets.specs.Text.{Word}
-use Rattle.sheets.specs.Trees.{Line, let-line, show-line, total-line, Sheet, numbered}
+use Rattle.sheets.specs.Trees.{Line, Sheet, numbered}
 use Rattle.sheets.specs.Grammar.{IsWord, IsLine, AreLines, IsSheet, after as afterPhase}
 use Rattle.sheets.specs.Kinds.{Kind, number, angle, len, geocentric, geodetic, vector, frame, kindOf, kindName}
-use Rattle.sheets.specs.Names.{lookup, givenOn}
-use Rattle.sheets.specs.Scopes.{Scope, give}
-use Rattle.sheets.specs.Refusals.{Checked}
 use Rattle.sheets.specs.Output.{hex, hexDigit, field, fields, fieldsText, outputLine}
 use Rattle.sheets.specs.Entries.{Entry, shown, summed, total, entryName, entryValue, entryLine, entryLines}
-use Rattle.sheets.specs.Machine.{Out, goes, stops, sticks, after, then, met, meet, eval, State, orSticks, rescoped, write, step, Ran, done, stopped, stuck, afterwards, onward, steps, start, machine}
+use Rattle.sheets.specs.Machine.{Out, goes, stops, sticks, State, step, Ran, done, stopped, stuck, afterwards, onward, steps, start, machine}
+use Rattle.sheets.specs.Totals.{Writes, a-show, a-total, nothing, writes}
+use Rattle.sheets.proofs.LineWrites.{Left, Wrote, line-wrote, Named, line-named}
 
 -- ---- an output line
 
@@ -72,21 +71,6 @@ word-length (c ∷ w) t = let h = t .2 in omega arith
 
 -- ---- a line of the sheet
 
-abbrev pub Left : {A : Type 0} → (A → Type 0) → Out A → Type 0
-Left P (goes fs x) = P x
-Left P (stops fs c) = Unit {0}
-Left P (sticks fs) = Unit {0}
-
-left-after : {A : Type 0} (P : A → Type 0) (fs : List LocalFrame) (o : Out A) → Left P o → Left P (after fs o)
-left-after P fs (goes hs x) h = h
-left-after P fs (stops hs c) h = h
-left-after P fs (sticks hs) h = h
-
-pub left-then : {A B : Type 0} (P : B → Type 0) (o : Out A) (k : A → Out B) → ((x : A) → Left P (k x)) → Left P (then o k)
-left-then P (goes fs x) k h = left-after P fs (k x) (h x)
-left-then P (stops fs c) k h = tt
-left-then P (sticks fs) k h = tt
-
 -- a line more
 pub entries-last : (es : List Entry) (e : Entry) → entryLines (es ++ (e ∷ [])) ≡ entryLines es ++ entryLine e
 entries-last [] e = append-nil (entryLine e)
@@ -95,21 +79,27 @@ entries-last (d ∷ es) e = ap (λ (t : List ℕ). entryLine d ++ t) (entries-la
 abbrev Longer : State → State → Type 0
 Longer s t = length (entryLines (t .entries)) ≤ length (entryLines (s .entries)) + 223
 
-longer-scope : (s : State) (c : Checked (Scope Value)) → Left (Longer s) (rescoped s c)
-longer-scope s c = left-then (Longer s) (orSticks c) _ (λ x. omega arith)
+longer-entry : (s t : State) (e : Entry) → IsWord (entryName e) → t .entries ≡ s .entries ++ (e ∷ []) → Longer s t
+longer-entry s t e h w = omega (
+  arith,
+  ap (λ es. length (entryLines es)) w,
+  ap length (entries-last (s .entries) e),
+  length-append (entryLines (s .entries)) (entryLine e),
+  line-length (entryName e) (entryValue e) (word-length (entryName e) h),
+)
 
-longer-write : (s : State) (e : Entry) → length (entryName e) ≤ 12 → Longer s (write s e)
-longer-write s e h =
-    let l = line-length (entryName e) (entryValue e) h in
-    let k = length-append (entryLines (s .entries)) (entryLine e) in
-    let m = ap length (entries-last (s .entries) e) in
-    omega arith
+longer : (i : ℕ) (s t : State) (k : Writes) → Named k → Wrote i s k t → Longer s t
+longer i s t nothing h w = omega (arith, ap (λ es. length (entryLines es)) w)
+longer i s t (a-show v) h (x, w) = longer-entry s t (shown i v x) h w
+longer i s t a-total h w = longer-entry s t (summed (total (s .entries))) h w
 
-longer-step : (i : ℕ) (s : State) (x : Line) → IsLine x → Left (Longer s) (step i s x)
-unfolding step
-longer-step i s (let-line w x) t = left-then (Longer s) (eval x (s .ellipsoid) (s .scope .known)) _ (λ y. longer-scope s (give (givenOn i w y) (s .scope)))
-longer-step i s (show-line w) t = left-then (Longer s) (meet (lookup w (s .scope .known))) _ (λ y. longer-write s (shown i w y) (word-length w (t .0 .1 .0)))
-longer-step i s total-line t = left-then (Longer s) (met (Metres (total (s .entries)))) _ (λ y. longer-write s (summed (total (s .entries))) (omega arith))
+longer-step : (i : ℕ) (s : State) (l : Line) → IsLine l → Left (Longer s) (step i s l)
+longer-step i s l h = go (step i s l) (line-wrote i s l)
+  where
+    go : (o : Out State) → Left (Wrote i s (writes l)) o → Left (Longer s) o
+    go (goes fs t) w = longer i s t (writes l) (line-named l h) w
+    go (stops fs c) w = tt
+    go (sticks fs) w = tt
 
 -- ---- a sheet
 
