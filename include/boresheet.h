@@ -38,8 +38,8 @@ extern "C" {
  * were; where it is refused, all of kinds is as it was. */
 uint32_t boresheet_check(const uint8_t *sheet, size_t sheet_len, uint8_t *kinds, size_t kinds_len, uint32_t *line);
 
-/* Checks a sheet and runs it. The text of its shows is in the first *written bytes of out, the rest of out is as it was;
- * refusals 7 and 8 leave the text of the earlier shows. *written is set on every return. A reading may have any bits. */
+/* Checks a sheet and runs it. The text of its shows and totals is in the first *written bytes of out, the rest of out is as
+ * it was; refusals 7 and 8 leave the text of the earlier lines. *written is set on every return. A reading may have any bits. */
 uint32_t boresheet_run(const uint8_t *sheet, size_t sheet_len, const double *readings, size_t readings_len,
                        uint8_t *out, size_t out_len, uint32_t *line, uint64_t *written);
 

@@ -81,7 +81,7 @@ pub fn usage(fd: i32) {
     write_line(fd, b"boresheet [READINGS] < SHEET");
     write_line(
         fd,
-        b"Checks and runs the bore sheet on standard input; its shows go to standard output.",
+        b"Checks and runs the bore sheet on standard input; its text goes to standard output.",
     );
     write_line(
         fd,

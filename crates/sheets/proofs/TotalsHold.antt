@@ -21,7 +21,7 @@ use Rattle.sheets.specs.Machine.{Out, goes, stops, sticks, State, step, 
 use Rattle.sheets.specs.Check.{Walked, passes, refuses, walk}
 use Rattle.sheets.specs.Answers.{sized, ranged, Verdict, admitted, refused, ofWalked, ofRange, ofSize, verdict, RunAnswer, Tells, RunOf, lentRun, RunOwes}
 use Rattle.sheets.specs.Claim.{All}
-use Rattle.sheets.specs.Totals.{cut, textLines, Writes, a-show, a-total, nothing, writes, AddUp}
+use Rattle.sheets.specs.Totals.{cut, textLines, Writes, a-show, a-total, nothing, writes, AddUp, TotalsAddUp}
 use Rattle.sheets.proofs.reader.FormLaws.{form-once}
 use Rattle.sheets.proofs.LineWrites.{Left, Wrote, line-wrote, Named, line-named}
 use Rattle.sheets.proofs.run.TextBound.{ranText}
@@ -166,11 +166,13 @@ tells-text (done fs s) out r out′ (er, eo) = rw (er, eo) (take-append-seam (en
 tells-text (stopped fs c i s) out r out′ (er, eo) = rw (er, eo) (take-append-seam (entryLines (s .entries)) _)
 tells-text (stuck fs i s) out r out′ h = absurd h
 
--- the run of a sheet over any readings, lent any output: the totals in the bytes that it wrote are the sums of what its shows wrote before them
-pub totals-add-up : (S : List ℕ) (R : List Float) (out : List ℕ) (r : RunAnswer) (out′ : List ℕ) → All Fits R → RunOwes S R out r out′ → (c : Sheet) → Written S c → AddUp (num 0) (map writes (c .lines)) (textLines (take (r .written) out′))
+-- the run over any readings, lent any output
+pub totals-add-up : (S : List ℕ) (R : List Float) (out : List ℕ) (r : RunAnswer) (out′ : List ℕ) → All Fits R → RunOwes S R out r out′ → TotalsAddUp S r out′
 unfolding cut
-totals-add-up S R out r out′ fit o c w = go (verdict (lentRun R out) S (o .form-is)) (subst (λ f. Of c (verdict (lentRun R out) S f)) (form-once S (formed c) (o .form-is) w (o .grammar)) (of-verdict (lentRun R out) S c)) (o .answer)
+totals-add-up S R out r out′ fit o = record {
+  adds = λ c w. go c w (verdict (lentRun R out) S (o .form-is)) (subst (λ f. Of c (verdict (lentRun R out) S f)) (form-once S (formed c) (o .form-is) w (o .grammar)) (of-verdict (lentRun R out) S c)) (o .answer);
+}
   where
-    go : (v : Verdict) → Of c v → RunOf v R out r out′ → AddUp (num 0) (map writes (c .lines)) (textLines (take (r .written) out′))
-    go (admitted d cs) e t = subst (λ s. AddUp (num 0) (map writes (c .lines)) (textLines s)) (sym (tells-text (machine d R) out r out′ t ∙ ap (λ d. ranText (machine d R)) e)) (text-adds c R (w .1) fit)
-    go (refused k j) e (er, eo) = rw er (adds-none (num 0) (map writes (c .lines)))
+    go : (c : Sheet) → Written S c → (v : Verdict) → Of c v → RunOf v R out r out′ → AddUp (num 0) (map writes (c .lines)) (textLines (take (r .written) out′))
+    go c w (admitted d cs) e t = subst (λ s. AddUp (num 0) (map writes (c .lines)) (textLines s)) (sym (tells-text (machine d R) out r out′ t ∙ ap (λ d. ranText (machine d R)) e)) (text-adds c R (w .1) fit)
+    go c w (refused k j) e (er, eo) = rw er (adds-none (num 0) (map writes (c .lines)))

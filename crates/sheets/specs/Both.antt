@@ -1,4 +1,4 @@
--- What `check_and_run` owes: what each of the two calls owes; demand 1; and, where what is lent has its length, demand 3 of what they answered and wrote.
+-- What `check_and_run` owes: what each of the two calls owes; demand 1; request Two's sentence; and, where what is lent has its length, demand 3 of what they answered and wrote.
 use Prim.Native.Nat.{ℕ}
 use mathlib.Core.Path.{_≡_}
 use mathlib.Core.List.{List}
@@ -6,6 +6,7 @@ use lib.ListN.{length}
 use lib.Ieee.{Float}
 use Rattle.sheets.specs.Answers.{CheckOwes, RunOwes}
 use Rattle.sheets.specs.Confined.{OutputConfined, ListConfined}
+use Rattle.sheets.specs.Totals.{TotalsAddUp}
 use Rattle.sheets.specs.Claim.{Claim}
 use Rattle.sheets.specs.declared.check_and_run.BothAnswers.{BothAnswers}
 
@@ -15,4 +16,5 @@ pub record Both (S : List ℕ) (R : List Float) (kinds out : List ℕ) (r : Both
   pub ran : RunOwes S R out (r .ran) out′
   pub list-confined : ListConfined S kinds (r .checked) kinds′
   pub output-confined : OutputConfined out (r .ran) out′
+  pub totals-add-up : TotalsAddUp S (r .ran) out′
   pub claimed : length kinds ≡ 96 → length R ≡ 16 → length out ≡ 24576 → Claim S R kinds (r .checked) kinds′ out (r .ran) out′

@@ -1,17 +1,21 @@
 -- Document 02, request Two, by its sentence: a total's sum equals the one over the output lines before it, each show counted.
 -- It goes by the sheet's lines and the text alone. The nth output line is that of the nth show or total; the values are read back from its digits.
 use mathlib.Core.Path.{_≡_}
-use mathlib.Core.List.{List, [], _∷_, _++_}
+use mathlib.Core.List.{List, [], _∷_, _++_, map}
 use mathlib.Core.Option.{Option, none, some}
 use mathlib.Core.Bool.{Bool, true, false, cond}
 use Prim.Native.Nat.{ℕ, _+_, _-_, _*_}
 use lib.Dec.{eqb, ltb}
+use lib.ListN.{take}
 use lib.Ieee.{Float, binary64, ofBits}
+use Rattle.numbers.specs.Ops.{num}
 use Rattle.numbers.specs.Lengths.{metres}
 use Rattle.numbers.specs.declared.Length.{Length}
 use Rattle.sheets.specs.Text.{Word}
-use Rattle.sheets.specs.Trees.{Line, let-line, show-line, total-line}
+use Rattle.sheets.specs.Trees.{Line, let-line, show-line, total-line, Sheet}
+use Rattle.sheets.specs.Grammar.{Written}
 use Rattle.sheets.specs.Entries.{plus}
+use Rattle.sheets.specs.Answers.{RunAnswer}
 
 -- ---- a text's lines
 
@@ -82,3 +86,7 @@ AddUp t (a-show w ∷ ws) [] = Unit {0}
 AddUp t (a-show w ∷ ws) (o ∷ outs) = AddUp (plus t (lengthIn o)) ws outs
 AddUp t (a-total ∷ ws) [] = Unit {0}
 AddUp t (a-total ∷ ws) (o ∷ outs) = (lengthIn o ≡ some (metres t)) × AddUp t ws outs
+
+-- The run of the bytes s answers r and leaves out′ in its output: in the bytes that it wrote the totals add up, from zero.
+pub record TotalsAddUp (s : List ℕ) (r : RunAnswer) (out′ : List ℕ) : Type 0 where
+  pub adds : (c : Sheet) → Written s c → AddUp (num 0) (map writes (c .lines)) (textLines (take (r .written) out′))

@@ -19,7 +19,7 @@ use crate::check::is_sized;
 use crate::run::lines_run::run_lines;
 ghost use Rattle.sheets.specs.Answers.{RunOwes};
 
-// It writes exactly the shows' text, in the first bytes of the output, and answers their count.
+// It writes exactly the text of the shows and totals, in the first bytes of the output, and answers how many bytes it has.
 pub fn run(sheet: &[u8], readings: &[f64], out: &mut [u8]) -> RunAnswer
     ensures { λ r. ⌜ RunOwes (now (sheet .entry)) (now (readings .entry)) (now (out .entry)) r (now (out .exit)) ⌝ }
 {
