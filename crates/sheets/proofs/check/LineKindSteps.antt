@@ -12,7 +12,7 @@ use Rattle.sheets.specs.Trees.{Line, let-line, show-line, total-line}
 use Rattle.sheets.specs.Grammar.{IsWord}
 use Rattle.sheets.specs.code.reader.Codes.{codeFrom, codeOf}
 use Rattle.sheets.specs.code.reader.Reader.{Got, none as noGot, got, readExpr, orElse, nothing, closing, limit, let-word, rest, readLine}
-use Rattle.sheets.specs.code.reader.Views.{closed, WholeAt}
+use Rattle.sheets.specs.code.reader.Views.{closed, WholeIn}
 use Rattle.sheets.specs.Kinds.{Kind, kindCode}
 use Rattle.sheets.specs.Table.{table, when}
 use Rattle.sheets.specs.Lookup.{sameWord, opens}
@@ -27,6 +27,7 @@ use Rattle.sheets.specs.declared.reader.lines.WholeLine.{WholeLine}
 use Rattle.sheets.proofs.reader.ReaderLaws.{then-got}
 use Rattle.sheets.proofs.reader.Inverse.{then-read, closing-read, limit-read}
 use Rattle.sheets.proofs.reader.PieceSteps.{closing-got}
+use Rattle.sheets.proofs.reader.Slices.{word-is}
 use Rattle.sheets.specs.code.check.Walking.{kindFound, Standing, kindSaid, ExprHas, lineWord, lineSaid, LineHas, WordHas, WholeHas, shortKind, BarredWord}
 use Rattle.sheets.specs.declared.check.kind_walk.KindRead.{KindRead}
 use Rattle.sheets.specs.declared.check.admit.LineKind.{LineKind}
@@ -112,13 +113,13 @@ module _ (words codes newest : List ℕ) (i : ℕ) (c : Scope Kind) (st : Standi
 
 pub whole-show : (line : WholeLine) (name : NameAt) → line ≡ WholeLine.Show name → (next i : ℕ) (c : Scope Kind) (r : LineKind) → WordHas (name .code) (λ w. got (show-line w) next) i c r → WholeHas line next i c r
 whole-show line name e next i c r h = rw e record {
-  is = λ at l (w, hw, en, el). subst (λ l. LineHas (got l next) i c r) (sym el) (h .is w hw (ap (λ (z : NameAt). z .code) (sym en)));
+  is = λ s l (w, ew, ec, el). subst (λ l. LineHas (got l next) i c r) (sym el) (h .is w (word-is s (name .from) w (name .end) ew) ec);
 }
 
 pub whole-total : (line : WholeLine) → line ≡ WholeLine.Total → (next i : ℕ) (c : Scope Kind) → WholeHas line next i c (LineKind.Is 0 2 next)
 unfolding lineᶜ lineSaid codeFrom
 whole-total line e next i c = rw e record {
-  is = λ at l el. subst (λ l. LineHas (got l next) i c (LineKind.Is 0 2 next)) (sym el) (record {
+  is = λ s l el. subst (λ l. LineHas (got l next) i c (LineKind.Is 0 2 next)) (sym el) (record {
     is = λ l n e. let en : next ≡ n = cc in let ek : total-line ≡ l = cc in rw (← ek, ← en) refl;
     read = λ w k n e. let en : next ≡ n = cc in (total-line, ap (got total-line) en);
   });
@@ -239,6 +240,6 @@ pub line-word : (s : List ℕ) (at i : ℕ) (d : Scope Kind) (code : ℕ) (o : W
     → (r : LineKind) → WordHas code o i d r → (q : LineKind) → q ≡ shortKind at r → LineHas (readLine s at) i d q
 line-word s at i d code o (w, hw, ec, el) r hr q eq = rw (el, eq) (short-line at (o w) i d r (hr .is w hw ec))
 
-pub line-whole : (s : List ℕ) (at i : ℕ) (d : Scope Kind) (line : WholeLine) (n : ℕ) → (l : Line) × WholeAt at line l × (readLine s at ≡ limit at (got l n))
+pub line-whole : (s : List ℕ) (at i : ℕ) (d : Scope Kind) (line : WholeLine) (n : ℕ) → (l : Line) × WholeIn s line l × (readLine s at ≡ limit at (got l n))
     → (r : LineKind) → WholeHas line n i d r → (q : LineKind) → q ≡ shortKind at r → LineHas (readLine s at) i d q
-line-whole s at i d line n (l, hl, el) r hr q eq = rw (el, eq) (short-line at (got l n) i d r (hr .is at l hl))
+line-whole s at i d line n (l, hl, el) r hr q eq = rw (el, eq) (short-line at (got l n) i d r (hr .is s l hl))

@@ -11,7 +11,7 @@ use Rattle.sheets.specs.Text.{Word, ascii, lf}
 use Rattle.sheets.specs.Trees.{Num, Expr, Exprs, word-expr, num-expr, form-expr, nil, _▸_, Line, let-line, show-line, total-line, Head, wgs84, custom}
 use Rattle.sheets.specs.Grammar.{IsWord, IsNum, sign, point, printNum, print, printArgs, IsExpr, AreArgs, ended, IsEnded, headBracket, IsHead, printHead, lineBracket, IsLine, printLine}
 use Rattle.sheets.specs.code.reader.Codes.{letter, wordChar, codeFrom, codeOf}
-use Rattle.sheets.specs.code.reader.Reader.{Got, none, got, _then_, charsIf, chars, wordIf, readWord, readExpr, orElse, nothing, opening, spaced, closing, limit, more, first, one, two, readThe, _or_, Row, fromRows, readRows, headRows, readHead, let-word, whole, lineRows, readBegun, rest, readLine}
+use Rattle.sheets.specs.code.reader.Reader.{Got, none, got, _then_, charsIf, chars, wordIf, readWord, readExpr, orElse, nothing, opening, spaced, closing, limit, more, first, one, two, readThe, _or_, Row, fromRows, readRows, headRows, readHead, let-word, whole, wholeRows, lineRows, readBegun, rest, readLine}
 use Rattle.sheets.proofs.reader.ReaderLaws.{then-got, mapped, closing-mapped, byte-inside, limit-is}
 use Rattle.sheets.proofs.reader.Spans.{Spans, spans-append, spans-split, spans-end, Holds, holds-none, holds-then, holds-or, holds-map}
 use Rattle.sheets.proofs.reader.TokenLaws.{word-complete, num-complete, no-word, digit-letter}
@@ -220,7 +220,7 @@ bare-whole-sound : (k : Word) (l : Line) → Is lineBracket k nil l → (s : Lis
 bare-whole-sound k l h s at = subst (Holds (Tail (Is lineBracket k) 5 s at)) (sym (whole-bare l s at)) (bare-sound (Is lineBracket k) 5 l h s at)
 
 line-rows : AreRows lineBracket (finished rest lineRows)
-unfolding lineRows readWord wordIf chars charsIf letter wordChar
+unfolding lineRows wholeRows readWord wordIf chars charsIf letter wordChar
 line-rows =
     (word-by (ascii "let") refl, let-sound)
     & (word-by (ascii "show") refl, whole-sound word-part (ascii "show") show-line (λ w. refl))
@@ -228,7 +228,7 @@ line-rows =
     & tt
 
 line-reads : (s : List ℕ) (l : Line) → Reads (finished rest lineRows) s (lineBracket l) l
-unfolding fromRows lineRows orElse codeFrom wordChar
+unfolding fromRows lineRows wholeRows orElse codeFrom wordChar
 line-reads s (let-line w x) = λ i m p h e. let-two s i ∙ two-complete word-part expr-part let-line s w x i m p (h .0) (h .1 .0) e
 line-reads s (show-line w) = λ i m p h e. whole-one readWord show-line s i ∙ one-complete word-part show-line s w i m p (h .0) e
 line-reads s total-line = λ i m p h e. whole-bare total-line s i ∙ bare-complete s total-line i m p e

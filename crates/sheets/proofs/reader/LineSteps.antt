@@ -10,16 +10,15 @@ use borrow.Author.Tests.{ne-eqb, le-leb, lt-leb, leb-true, leb-false}
 use Rattle.sheets.specs.Text.{Word, ascii}
 use Rattle.sheets.specs.Trees.{Line, let-line, show-line, total-line}
 use Rattle.sheets.specs.Grammar.{IsWord}
-use Rattle.sheets.specs.code.reader.Codes.{letter, wordChar, codeFrom, codeOf}
-use Rattle.sheets.specs.code.reader.Reader.{Got, none, got, _then_, charsIf, chars, wordIf, readWord, readExpr, orElse, nothing, opening, spaced, closing, limit, more, first, one, fromRows, readRows, Begun, let-word, whole, lineRows, readBegun, rest, readLine}
-use Rattle.sheets.specs.code.reader.Views.{place, coded, closed, shortEnd, nameAt, namedAt, behind, lineHead, WholeAt}
+use Rattle.sheets.specs.code.reader.Codes.{wordChar, codeFrom, codeOf}
+use Rattle.sheets.specs.code.reader.Reader.{Got, none, got, _then_, readWord, readExpr, orElse, nothing, opening, spaced, closing, limit, more, first, one, Row, fromRows, readRows, Begun, let-word, whole, wholeRows, lineRows, readBegun, rest, readLine}
+use Rattle.sheets.specs.code.reader.Views.{place, coded, closed, shortEnd, nameAt, namedAt, headTold, headOpened, lineHead, WholeIn}
 use Rattle.sheets.proofs.reader.ReaderLaws.{then-got, mapped, closing-mapped}
-use Rattle.sheets.proofs.reader.Spans.{Holds, holds-none, holds-then, holds-at, holds-or, holds-map, spans-end}
+use Rattle.sheets.proofs.reader.Spans.{Holds, holds-none, holds-then, holds-at, holds-or}
 use Rattle.sheets.proofs.reader.TokenLaws.{WordAt, word-sound, word-spans}
-use Rattle.sheets.proofs.reader.CodeLaws.{code-same, word-by}
-use Rattle.sheets.proofs.reader.PieceLaws.{OpenAt, open-sound, space-holds, closing-holds}
+use Rattle.sheets.proofs.reader.PieceLaws.{space-holds, closing-holds}
 use Rattle.sheets.proofs.reader.PieceSteps.{then-none, spaced-got, spaced-inside, closing-none, closing-got}
-use Rattle.sheets.proofs.reader.RowSteps.{rows-none, rows-got, more-none, more-got, first-mapped, one-mapped}
+use Rattle.sheets.proofs.reader.RowSteps.{more-none, more-got, first-mapped, one-mapped}
 use Rattle.sheets.proofs.reader.Viewed.{placed-none, placed-got, coded-none, coded-got, named-none, named-got}
 use Rattle.sheets.specs.declared.reader.bytes.WordRead.{WordRead}
 use Rattle.sheets.specs.declared.reader.expr.Read.{Read}
@@ -51,43 +50,50 @@ module _ (s : List ℕ) (at : ℕ) (r : WordRead) (er : r ≡ coded (spaced (rea
 
 -- ---- the head of a line
 
--- what `line_head` answers of what is begun at a place: of a let its word, which is a WORD, and of any other line what the code has of it
-unfoldable Begins : ℕ → Begun → ℕ → Type 0
-Begins at (let-word w) n = IsWord w
-Begins at (whole l) n = (y : WholeLine) × (lineHead at (got (whole l) n) ≡ LineHead.Whole y n) × WholeAt at y l
+-- what is answered of what is begun behind a word that ends at n: of a let its word, which is a WORD, and of any other line what the code has of it
+unfoldable Begins : List ℕ → ℕ → Begun → ℕ → Type 0
+Begins s n (let-word w) m = IsWord w
+Begins s n (whole l) m = (y : WholeLine) × (headTold n (got (whole l) m) ≡ LineHead.Whole y m) × WholeIn s y l
 
-word-begins : (at : ℕ) (f : Word → List ℕ → ℕ → Got Begun) (s : List ℕ) → ((w : Word) (n : ℕ) → IsWord w → Holds (Begins at) (f w s n)) → (n : ℕ) → Holds (Begins at) (more readWord f s n)
-unfolding more spaced
-word-begins at f s h n =
-    holds-then (λ w n. IsWord w) (Begins at) (spaced (readWord s) s n) _
-    (holds-or (λ w n. IsWord w) (eqb (getD s n 0) 32) (λ n. readWord s (n + 1)) nothing n
-    (λ e. holds-map (WordAt s (n + 1)) (λ w n. IsWord w) (readWord s (n + 1)) (λ w n p. p .1) (word-sound s (n + 1)))
-    (λ e. holds-none (λ w n. IsWord w)))
-    h
+holds-self : {A : Type 0} (o : Got A) → Holds (λ x m. o ≡ got x m) o
+unfolding Holds
+holds-self none = tt
+holds-self (got x m) = refl
 
-begun-begins : (s : List ℕ) (at : ℕ) → Holds (Begins at) (readBegun s at)
-unfolding readBegun readRows fromRows lineRows Begins lineHead
-begun-begins s at =
-    holds-then (OpenAt s at) (Begins at) (opening s at) _ (open-sound s at) (λ k n p.
-    holds-or (Begins at) (eqb (codeOf k) (codeOf (ascii "let"))) _ _ n (λ e. word-begins at _ s (λ w m h. space-holds (Begins at) (let-word w) s m (λ i. h)) n) (λ e.
-    holds-or (Begins at) (eqb (codeOf k) (codeOf (ascii "show"))) _ _ n (λ e. word-begins at _ s (λ w m h. closing-holds (Begins at) (whole (show-line w)) s m (λ i. (WholeLine.Show (nameAt w (behind "show" at)), refl, (w, h, refl, refl)))) n) (λ e.
-    holds-or (Begins at) (eqb (codeOf k) (codeOf (ascii "total"))) _ _ n (λ e. closing-holds (Begins at) (whole total-line) s n (λ i. (WholeLine.Total, refl, refl))) (λ e.
-    holds-none (Begins at)))))
+word-begins : (s : List ℕ) (n : ℕ) (f : Word → List ℕ → ℕ → Got Begun) → ((w : Word) (m : ℕ) → readWord s (n + 1) ≡ got w m → Holds (Begins s n) (f w s m)) → Holds (Begins s n) (more readWord f s n)
+unfolding more
+word-begins s n f h = holds-then _ (Begins s n) (spaced (readWord s) s n) _ (holds-self (spaced (readWord s) s n)) (λ w m e. h w m (spaced-got (readWord s) s n w m e .1))
+
+-- the word that was read, where its name says that it stands
+named-in : (s : List ℕ) (n : ℕ) (w : Word) (m : ℕ) → readWord s (n + 1) ≡ got w m → readWord s (n + 1) ≡ got w (n + 1 + length w)
+named-in s n w m e = e ∙ ap (got w) (word-spans s (n + 1) w m e)
+
+rows-begin : (s : List ℕ) (k n : ℕ) → Holds (Begins s n) (fromRows lineRows k s n)
+unfolding fromRows lineRows wholeRows Begins headTold
+rows-begin s k n =
+    holds-or (Begins s n) (eqb k (codeOf (ascii "let"))) _ _ n (λ e. word-begins s n _ (λ w m h. space-holds (Begins s n) (let-word w) s m (λ i. holds-at (WordAt s (n + 1)) (readWord s (n + 1)) w m (word-sound s (n + 1)) h .1))) (λ e.
+    holds-or (Begins s n) (eqb k (codeOf (ascii "show"))) _ _ n (λ e. word-begins s n _ (λ w m h. closing-holds (Begins s n) (whole (show-line w)) s m (λ i. (WholeLine.Show (nameAt w (n + 1)), refl, (w, named-in s n w m h, refl, refl))))) (λ e.
+    holds-or (Begins s n) (eqb k (codeOf (ascii "total"))) _ _ n (λ e. closing-holds (Begins s n) (whole total-line) s n (λ i. (WholeLine.Total, refl, refl))) (λ e.
+    holds-none (Begins s n))))
 
 -- what an answer of `line_head` says of the line that is read at a place
 abbrev Says : List ℕ → ℕ → Got Line → LineHead → Type 0
 Says s at o LineHead.Bad = o ≡ none
 Says s at o (LineHead.Let name n) = (w : Word) × IsWord w × (codeOf w ≡ name .code) × (o ≡ limit at (rest s (let-word w) n))
-Says s at o (LineHead.Whole y n) = (l : Line) × WholeAt at y l × (o ≡ limit at (got l n))
+Says s at o (LineHead.Whole y n) = (l : Line) × WholeIn s y l × (o ≡ limit at (got l n))
 
-pub head-says : (s : List ℕ) (at : ℕ) (r : LineHead) → r ≡ lineHead at (readBegun s at) → (q : LineHead) → r ≡ q → Says s at (readLine s at) q
-unfolding readLine lineHead Begins Holds limit rest _then_
-head-says s at r er q h = subst (Says s at (readLine s at)) (sym er ∙ h) (go (readBegun s at) (begun-begins s at))
+pub head-says : (s : List ℕ) (at : ℕ) (r : LineHead) → r ≡ lineHead s at → (q : LineHead) → r ≡ q → Says s at (readLine s at) q
+unfolding readLine readBegun readRows headOpened headTold Begins Holds limit rest _then_
+head-says s at r er q h = subst (Says s at (readLine s at)) (sym er ∙ h) (go (opening s at))
   where
-    go : (o : Got Begun) → Holds (Begins at) o → Says s at (limit at (o then rest s)) (lineHead at o)
-    go none t = refl
-    go (got (let-word w) n) t = (w, t, refl, refl)
-    go (got (whole l) n) (y, e, t) = subst (Says s at (limit at (got l n))) (sym e) (l, t, refl)
+    row : (n : ℕ) (o : Got Begun) → Holds (Begins s n) o → Says s at (limit at (o then rest s)) (headTold n o)
+    row n none t = refl
+    row n (got (let-word w) m) t = (w, t, refl, refl)
+    row n (got (whole l) m) (y, e, t) = subst (Says s at (limit at (got l m))) (sym e) (l, t, refl)
+
+    go : (o : Got Word) → Says s at (limit at ((o then (λ k n. fromRows lineRows (codeOf k) s n)) then rest s)) (headOpened s o)
+    go none = refl
+    go (got k n) = row n (fromRows lineRows (codeOf k) s n) (rows-begin s (codeOf k) n)
 
 -- ---- a line that a word opens
 
@@ -97,46 +103,47 @@ toldBy f none = LineHead.Bad
 toldBy f (got v m) = f v m
 
 module _ (s : List ℕ) (at : ℕ) (r : WordRead) (er : r ≡ coded (opening s at)) where
-  pub head-no-word : r ≡ WordRead.Not → LineHead.Bad ≡ lineHead at (readBegun s at)
-  unfolding readBegun lineHead
-  head-no-word h = ap (lineHead at) (sym (rows-none lineRows s at r er h))
+  pub head-no-word : r ≡ WordRead.Not → LineHead.Bad ≡ lineHead s at
+  unfolding headOpened
+  head-no-word h = ap (headOpened s) (sym (coded-none (opening s at) r er h))
 
-  module _ (k n : ℕ) (h : r ≡ WordRead.Is k n) where
-    row-is : readBegun s at ≡ fromRows lineRows k s n
-    unfolding readBegun
-    row-is = rows-got lineRows s at r er k n h
+  -- the rows go by its code
+  pub head-opened : (k n : ℕ) → r ≡ WordRead.Is k n → headTold n (fromRows lineRows k s n) ≡ lineHead s at
+  unfolding headOpened
+  head-opened k n h = let (w, ew, ek) = coded-got (opening s at) r er k n h in ap (λ c. headTold n (fromRows lineRows c s n)) ek ∙ ap (headOpened s) (sym ew)
 
-    -- where the word after the opening one begins
-    behind-is : (v : Word) → IsWord v → k ≡ codeOf v → n + 1 ≡ at + length v + 2
-    behind-is v hv e =
-        let (w, ew, ek) = coded-got (opening s at) r er k n h in
-        let p = holds-at (OpenAt s at) (opening s at) w n (open-sound s at) ew in
-        omega (arith, spans-end s (40 ∷ w) at n (p .0), ap length (code-same w v (p .1) hv (sym ek ∙ e)))
+module _ (s : List ℕ) (k n : ℕ) where
+  abbrev Opens : {B : Type 0} → List (Row Begun) → (B → ℕ → LineHead) → Got B → Type 0
+  Opens rs f o = headTold n (fromRows rs k s n) ≡ toldBy f o
 
-    -- the row of the word reads o, and the code tells it so
-    opens-by : {B : Type 0} (make : B → Begun) (f : B → ℕ → LineHead) (o : Got B) → fromRows lineRows k s n ≡ mapped make o → ((v : B) (m : ℕ) → lineHead at (got (make v) m) ≡ f v m) → lineHead at (readBegun s at) ≡ toldBy f o
-    unfolding mapped lineHead
-    opens-by {B} make f o e t = ap (lineHead at) (row-is ∙ e) ∙ go o
-      where
-        go : (o : Got B) → lineHead at (mapped make o) ≡ toldBy f o
-        go none = refl
-        go (got v m) = t v m
+  -- the row of the word reads o, and the code tells it so
+  opens-by : {B : Type 0} (rs : List (Row Begun)) (make : B → Begun) (f : B → ℕ → LineHead) (o : Got B) → fromRows rs k s n ≡ mapped make o → ((v : B) (m : ℕ) → headTold n (got (make v) m) ≡ f v m) → Opens rs f o
+  unfolding mapped headTold
+  opens-by {B} rs make f o e t = ap (headTold n) e ∙ go o
+    where
+      go : (o : Got B) → headTold n (mapped make o) ≡ toldBy f o
+      go none = refl
+      go (got v m) = t v m
 
-    pub opens-let : k ≡ codeOf (ascii "let") → lineHead at (readBegun s at) ≡ toldBy (λ w m. LineHead.Let (nameAt w (n + 1)) m) (first readWord (λ w. w) s n)
-    unfolding lineRows fromRows orElse codeFrom wordChar readWord wordIf chars charsIf letter lineHead
-    opens-let e = opens-by let-word _ (first readWord (λ w. w) s n) (rw e (first-mapped readWord let-word s n)) (λ w m. ap (λ i. LineHead.Let (nameAt w i) m) (sym (behind-is (ascii "let") (word-by (ascii "let") refl) e)))
+  pub opens-let : k ≡ codeOf (ascii "let") → Opens lineRows (λ w m. LineHead.Let (nameAt w (n + 1)) m) (first readWord (λ w. w) s n)
+  unfolding lineRows fromRows orElse codeFrom wordChar headTold
+  opens-let e = opens-by lineRows let-word _ (first readWord (λ w. w) s n) (rw e (first-mapped readWord let-word s n)) (λ w m. refl)
 
-    pub opens-show : k ≡ codeOf (ascii "show") → lineHead at (readBegun s at) ≡ toldBy (λ w m. LineHead.Whole (WholeLine.Show (nameAt w (n + 1))) m) (one readWord (λ w. w) s n)
-    unfolding lineRows fromRows orElse codeFrom wordChar readWord wordIf chars charsIf letter lineHead
-    opens-show e = opens-by (λ w. whole (show-line w)) _ (one readWord (λ w. w) s n) (rw e (one-mapped readWord (λ w. whole (show-line w)) s n)) (λ w m. ap (λ i. LineHead.Whole (WholeLine.Show (nameAt w i)) m) (sym (behind-is (ascii "show") (word-by (ascii "show") refl) e)))
+  pub opens-whole : (k ≡ codeOf (ascii "let") → ⊥) → headTold n (fromRows wholeRows k s n) ≡ headTold n (fromRows lineRows k s n)
+  unfolding lineRows fromRows orElse
+  opens-whole e = rw (ne-eqb k (codeOf (ascii "let")) e) refl
 
-    pub opens-total : k ≡ codeOf (ascii "total") → lineHead at (readBegun s at) ≡ toldBy (λ u m. LineHead.Whole WholeLine.Total m) (closing {A = Unit {0}} tt s n)
-    unfolding lineRows fromRows orElse codeFrom wordChar lineHead
-    opens-total e = opens-by (λ u. whole total-line) _ (closing {A = Unit {0}} tt s n) (rw e (closing-mapped (whole total-line) s n)) (λ u m. refl)
+  pub opens-show : k ≡ codeOf (ascii "show") → Opens wholeRows (λ w m. LineHead.Whole (WholeLine.Show (nameAt w (n + 1))) m) (one readWord (λ w. w) s n)
+  unfolding wholeRows fromRows orElse codeFrom wordChar headTold
+  opens-show e = opens-by wholeRows (λ w. whole (show-line w)) _ (one readWord (λ w. w) s n) (rw e (one-mapped readWord (λ w. whole (show-line w)) s n)) (λ w m. refl)
 
-    pub opens-none : (k ≡ codeOf (ascii "let") → ⊥) → (k ≡ codeOf (ascii "show") → ⊥) → (k ≡ codeOf (ascii "total") → ⊥) → LineHead.Bad ≡ lineHead at (readBegun s at)
-    unfolding lineRows fromRows orElse codeFrom wordChar lineHead
-    opens-none e f g = rw (row-is, ne-eqb k (codeOf (ascii "let")) e, ne-eqb k (codeOf (ascii "show")) f, ne-eqb k (codeOf (ascii "total")) g) refl
+  pub opens-total : k ≡ codeOf (ascii "total") → Opens wholeRows (λ u m. LineHead.Whole WholeLine.Total m) (closing {A = Unit {0}} tt s n)
+  unfolding wholeRows fromRows orElse codeFrom wordChar headTold
+  opens-total e = opens-by wholeRows (λ u. whole total-line) _ (closing {A = Unit {0}} tt s n) (rw e (closing-mapped (whole total-line) s n)) (λ u m. refl)
+
+  pub opens-none : (k ≡ codeOf (ascii "show") → ⊥) → (k ≡ codeOf (ascii "total") → ⊥) → LineHead.Bad ≡ headTold n (fromRows wholeRows k s n)
+  unfolding wholeRows fromRows orElse headTold
+  opens-none f g = rw (ne-eqb k (codeOf (ascii "show")) f, ne-eqb k (codeOf (ascii "total")) g) refl
 
 -- by what the code read of o: a word, or the line's end
 module _ (x : LineHead) (n : ℕ) where
@@ -179,7 +186,7 @@ short-is {A} x at n = go (leb n (at + 200))
     go true = refl
     go false = refl
 
-module _ (s : List ℕ) (at : ℕ) (r : LineHead) (er : r ≡ lineHead at (readBegun s at)) where
+module _ (s : List ℕ) (at : ℕ) (r : LineHead) (er : r ≡ lineHead s at) where
   pub end-bad : r ≡ LineHead.Bad → Read.Bad ≡ place (readLine s at)
   unfolding place
   end-bad h = ap place (sym (head-says s at r er _ h))

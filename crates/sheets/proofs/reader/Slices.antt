@@ -1,4 +1,4 @@
--- A word that was read, as a part of the bytes, and where a show's word stands. Assumes nothing.
+-- A word that was read, as a part of the bytes. Assumes nothing.
 use Prim.Native.Nat.{ℕ, _+_, _-_, _<_, _≤_}
 use native.Mathlib.Omega.{arith}
 use mathlib.Core.Path.{_≡_, ap, _∙_}
@@ -6,17 +6,13 @@ use mathlib.Core.Logic.{_⊎_, inl, inr}
 use mathlib.Core.List.{List, [], _∷_}
 use lib.ListN.{length, take, drop}
 use lib.Seq.{take-append-seam}
-use Rattle.sheets.specs.Text.{Word, lf}
-use Rattle.sheets.specs.Trees.{nil, show-line}
-use Rattle.sheets.specs.Grammar.{Letter, Digit, Each, IsWord, print, printArgs, lineBracket}
-use Rattle.sheets.specs.code.reader.Reader.{got, readWord, readLine}
-use Rattle.sheets.specs.code.reader.Views.{behind}
+use Rattle.sheets.specs.Text.{Word}
+use Rattle.sheets.specs.Grammar.{Letter, Digit, Each, IsWord}
+use Rattle.sheets.specs.code.reader.Reader.{got, readWord}
 pub use Rattle.sheets.specs.code.run.Writing.{part}
-use Rattle.sheets.proofs.reader.Spans.{Spans, spans-split, spans-end, spans-drop, holds-at}
+use Rattle.sheets.proofs.reader.Spans.{Spans, spans-end, spans-drop, holds-at}
 use Rattle.sheets.proofs.reader.ReaderLaws.{byte-inside}
-use Rattle.sheets.proofs.reader.TokenLaws.{WordAt, word-sound, word-complete}
-use Rattle.sheets.proofs.reader.ExprLaws.{args-stop}
-use Rattle.sheets.proofs.reader.LineLaws.{LineStands, line-sound}
+use Rattle.sheets.proofs.reader.TokenLaws.{WordAt, word-sound}
 
 part-is : (s x : List ℕ) (at n : ℕ) → Spans s x at n → n ≤ length s → part s at n ≡ x
 part-is s x at n p h =
@@ -51,14 +47,3 @@ module _ (s : List ℕ) (at : ℕ) (w : Word) (n : ℕ) (e : readWord s at ≡ g
   word-part =
       let h = word-inside s w at n word-is (stood .0) in
       (part-is s w at n (stood .0) h, spans-end s w at n (stood .0), h)
-
--- ---- a show's word, by the place of its line
-
-pub show-word : (s : List ℕ) (at : ℕ) (w : Word) (n : ℕ) → readLine s at ≡ got (show-line w) n → readWord s (behind "show" at) ≡ got w (behind "show" at + length w)
-unfolding Spans
-show-word s at w n e =
-    let (p, h, le, lt) = holds-at (LineStands s at) (readLine s at) (show-line w) n (line-sound s at) e in
-    let (m, q, r) = spans-split s (print (lineBracket (show-line w))) lf at n p in
-    let (i, a, b) = spans-split s w (printArgs nil) (at + 1 + 1 + 1 + 1 + 1 + 1) m (q .1 .1 .1 .1 .1 .1) in
-    let j : behind "show" at ≡ at + 1 + 1 + 1 + 1 + 1 + 1 = omega arith in
-    ap (readWord s) j ∙ word-complete s w _ i a (h .0 .1 .0) (args-stop s nil i m b) ∙ ap (got w) (omega (arith, spans-end s w _ i a))

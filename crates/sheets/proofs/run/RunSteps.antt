@@ -26,7 +26,7 @@ use Rattle.sheets.specs.Machine.{eval, State, step, steps}
 use Rattle.sheets.specs.Answers.{laid, Tells}
 use Rattle.sheets.specs.Claim.{Unstuck}
 use Rattle.sheets.specs.code.reader.Codes.{codeOf}
-use Rattle.sheets.specs.code.reader.Reader.{none as noGot, got, limit, let-word, rest, readBegun, readLine, formed, readLines}
+use Rattle.sheets.specs.code.reader.Reader.{none as noGot, got, limit, let-word, rest, readLine, formed, readLines}
 use Rattle.sheets.specs.code.reader.Views.{lineHead}
 use Rattle.sheets.specs.code.check.Newest as Search
 use Rattle.sheets.specs.code.run.Floats.{Lies}
@@ -169,14 +169,14 @@ module _ {s : List ℕ} {e : Ellipsoid} {rs : List Float} {d : List ℕ} {h : St
 
     -- ---- a line that is read whole
 
-    module _ (head : LineHead) (eh : head ≡ lineHead (h .at) (readBegun s (h .at))) (y : WholeLine) (next : ℕ) (is : head ≡ LineHead.Whole y next) (high : h .line ≤ 96)
+    module _ (head : LineHead) (eh : head ≡ lineHead s (h .at)) (y : WholeLine) (next : ℕ) (is : head ≡ LineHead.Whole y next) (high : h .line ≤ 96)
         (c : ℕ) (ec : c ≡ wordNamed y) (j : ℕ) (hj : Search.Placed (h .words) (h .newest) c j) (x : Slot) (r : Evaluated) (shown : List ℕ) (sum : Float) (out : List ℕ) (hr : WholeRuns s y j (getD (h .slots) j x .value) (h .floats) (h .shown) (h .sum) (h .out) (h .written) r shown sum out) where
       whole-here : (ls : List Line) (st : State) → Now s e rs d h ls st → (l : Line) (m : ℕ) → readLine s (h .at) ≡ got l m → (next ≡ m) × Comes h d st l r shown sum out
       whole-here ls st now l m el =
           let (k, t, ek) = head-says s (h .at) head eh _ is in
           let same = limit-read (h .at) (got k next) l m (sym ek ∙ el) .0 in
           let kl : k ≡ l = cc in
-          (cc, subst (λ k. Comes h d st k r shown sum out) kl (whole-comes now high r shown sum out y k next t (el ∙ sym same) j (subst (λ c. Search.Placed (h .words) (h .newest) c j) ec hj) x hr))
+          (cc, subst (λ k. Comes h d st k r shown sum out) kl (whole-comes now high r shown sum out y k t j (subst (λ c. Search.Placed (h .words) (h .newest) c j) ec hj) x hr))
 
       pub runs-whole-not : NotIs r → (a : RunAnswer) → a ≡ stoppedAt r (h .line) (h .written) → RunsFrom s e rs d h a out
       runs-whole-not m a ea = by-line a out (λ ls st now sp un.

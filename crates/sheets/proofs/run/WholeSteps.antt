@@ -22,15 +22,15 @@ use Rattle.sheets.specs.Limits.{inLimit}
 use Rattle.sheets.specs.Entries.{Entry, shown as entry, summed, entryName, entryValue, entryLine, entryLines, total}
 use Rattle.sheets.specs.Machine.{Out, goes, after, then as thenᵒ, met, meet, State, write, step}
 use Rattle.sheets.specs.Answers.{laid}
-use Rattle.sheets.specs.code.reader.Codes.{letter, wordChar, codeOf}
-use Rattle.sheets.specs.code.reader.Reader.{got, charsIf, chars, wordIf, readWord, readLine}
-use Rattle.sheets.specs.code.reader.Views.{WholeAt}
+use Rattle.sheets.specs.code.reader.Codes.{letter, wordChar}
+use Rattle.sheets.specs.code.reader.Reader.{got, charsIf, chars, wordIf, readWord}
+use Rattle.sheets.specs.code.reader.Views.{WholeIn}
 use Rattle.sheets.specs.code.check.Newest as Search
 use Rattle.sheets.specs.code.run.Known.{wordFound, foundAt}
 use Rattle.sheets.specs.code.run.Keeping.{EntryKept, shows, EntriesKept}
 use Rattle.sheets.specs.code.run.Evaluating.{evaluated}
 use Rattle.sheets.specs.code.run.Wholes.{wordNamed, TestedLine, KeptIf, Shown, ShownAs, Wholly, WholeRuns}
-use Rattle.sheets.proofs.reader.Slices.{show-word, word-is}
+use Rattle.sheets.proofs.reader.Slices.{word-is}
 use Rattle.sheets.proofs.run.TextBound.{line-length, word-length, entries-last}
 use Rattle.sheets.proofs.run.LineText.{line-laid}
 use Rattle.sheets.proofs.run.ListedLaws.{listed-at, found-kept}
@@ -111,12 +111,10 @@ module _ {s : List ℕ} {e : Ellipsoid} {rs : List Float} {d : List ℕ} {h : St
       ))
 
   -- by its form: the line l stands there, its word at the place j among the names
-  pub whole-comes : (y : WholeLine) (l : Line) (n : ℕ) → WholeAt (h .at) y l → readLine s (h .at) ≡ got l n → (j : ℕ) → Search.Placed (h .words) (h .newest) (wordNamed y) j → (x : Slot)
+  pub whole-comes : (y : WholeLine) (l : Line) → WholeIn s y l → (j : ℕ) → Search.Placed (h .words) (h .newest) (wordNamed y) j → (x : Slot)
       → WholeRuns s y j (getD (h .slots) j x .value) (h .floats) (h .shown) (h .sum) (h .out) (h .written) r shown sum out → Comes-to l
   unfolding Wholly wordNamed
-  whole-comes (WholeLine.Show name) l n (w, hw, en, el) er j hj x hr =
-      let ew = subst (λ (z : NameAt). readWord s (z .from) ≡ got w (z .end)) (sym en) (show-word s (h .at) w n (subst (λ l. readLine s (h .at) ≡ got l n) el er)) in
-      let ec : codeOf w ≡ name .code = ap (λ (z : NameAt). z .code) (sym en) in
-      let known = now .tabled .is w hw ∙ ap (wordFound (h .slots) rs (h .n)) ec ∙ sym (listed-at (h .slots) rs (h .words) (h .kinds) (h .newest) (h .floats) (h .n) (now .listed) (name .code) j hj x) in
+  whole-comes (WholeLine.Show name) l (w, ew, ec, el) j hj x hr =
+      let known = now .tabled .is w (word-is s (name .from) w (name .end) ew) ∙ ap (wordFound (h .slots) rs (h .n)) ec ∙ sym (listed-at (h .slots) rs (h .words) (h .kinds) (h .newest) (h .floats) (h .n) (now .listed) (name .code) j hj x) in
       subst Comes-to (sym el) (show-comes name w ew j _ known (λ v ev. found-kept (h .slots) rs (h .words) (h .kinds) (h .newest) (h .floats) (h .n) (now .listed) (now .kept .reading) (name .code) j hj x v ev) (hr .is .is))
-  whole-comes WholeLine.Total l n el er j hj x hr = subst Comes-to (sym el) (total-comes (hr .is .0) (hr .is .1) (hr .is .2))
+  whole-comes WholeLine.Total l el j hj x hr = subst Comes-to (sym el) (total-comes (hr .is .0) (hr .is .1) (hr .is .2))

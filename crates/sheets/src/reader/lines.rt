@@ -9,8 +9,8 @@ use crate::reader::words;
 ghost use mathlib.Core.Path.{_≡_};
 ghost use Prim.Native.Nat.{_+_};
 ghost use lib.Dec.{leb};
-ghost use Rattle.sheets.specs.code.reader.Reader.{readWord, opening, spaced, first, one, readBegun, readLine};
-ghost use Rattle.sheets.specs.code.reader.Views.{place, closed, shortEnd, coded, namedAt, lineHead, WholeHead};
+ghost use Rattle.sheets.specs.code.reader.Reader.{readWord, opening, spaced, first, one, fromRows, wholeRows, readLine};
+ghost use Rattle.sheets.specs.code.reader.Views.{place, closed, shortEnd, coded, namedAt, headTold, lineHead};
 
 // A line's word: its code, and where it stands, from its first byte to the place after it.
 pub struct NameAt {
@@ -25,7 +25,7 @@ pub(crate) enum NameRead {
     Not,
 }
 
-// A line that is read whole: which it is, with its word.
+// A line that is read whole: which it is, with its word where it has one.
 pub enum WholeLine {
     Show(NameAt),
     Total,
@@ -127,20 +127,20 @@ fn first_word(s: &[u8], at: usize) -> NameRead
     NameRead::Not
 }
 
-// Which line stands at a place, where it is no let: by the code of the word that opens it, and the place after that word.
-fn whole_head(s: &[u8], at: usize, code: u64, n: usize) -> LineHead
-    ensures { λ r. ⌜ WholeHead (now (s .entry)) at code n r ⌝ }
+// A line that is read whole, by the code of the word that opens it, and from the place after that word.
+fn whole_head(s: &[u8], code: u64, at: usize) -> LineHead
+    ensures { λ r. ⌜ r ≡ headTold at (fromRows wholeRows code (now (s .entry)) at) ⌝ }
 {
     match code {
         words::SHOW => {
-            let r = one_word(s, n);
+            let r = one_word(s, at);
             match r {
                 NameRead::Is(name, next) => LineHead::Whole(WholeLine::Show(name), next),
                 NameRead::Not => LineHead::Bad,
             }
         }
         words::TOTAL => {
-            let r = closing(s, n);
+            let r = closing(s, at);
             match r {
                 Read::At(next) => LineHead::Whole(WholeLine::Total, next),
                 Read::Bad => LineHead::Bad,
@@ -152,7 +152,7 @@ fn whole_head(s: &[u8], at: usize, code: u64, n: usize) -> LineHead
 
 // Which line stands at a place, by the word that opens it.
 pub fn line_head(s: &[u8], at: usize) -> LineHead
-    ensures { λ r. ⌜ r ≡ lineHead at (readBegun (now (s .entry)) at) ⌝ }
+    ensures { λ r. ⌜ r ≡ lineHead (now (s .entry)) at ⌝ }
 {
     let k = line_word(s, at);
     let WordRead::Is(code, n) = k else {
@@ -166,7 +166,7 @@ pub fn line_head(s: &[u8], at: usize) -> LineHead
                 NameRead::Not => LineHead::Bad,
             }
         }
-        _ => whole_head(s, at, code, n),
+        _ => whole_head(s, code, n),
     }
 }
 

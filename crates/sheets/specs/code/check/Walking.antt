@@ -13,7 +13,7 @@ use Rattle.sheets.specs.Trees.{Expr, Exprs, Line, let-line, show-line, t
 use Rattle.sheets.specs.Grammar.{IsWord}
 use Rattle.sheets.specs.code.reader.Codes.{codeOf}
 use Rattle.sheets.specs.code.reader.Reader.{Got, got, readArgs, readExpr, readHead, Form, formed, badLine, readLines}
-use Rattle.sheets.specs.code.reader.Views.{WholeAt}
+use Rattle.sheets.specs.code.reader.Views.{WholeIn}
 use Rattle.sheets.specs.Kinds.{Kind, kindCode}
 use Rattle.sheets.specs.Table.{when}
 use Rattle.sheets.specs.Names.{Known, lookup, barred, readingWords}
@@ -112,7 +112,7 @@ pub record WordHas (code : ℕ) (o : Word → Got Line) (i : ℕ) (c : Scope Kin
 
 -- r answers a line that is read whole, where the next one stands at `next`
 pub record WholeHas (line : WholeLine) (next i : ℕ) (c : Scope Kind) (r : LineKind) : Type 0 where
-  pub is : (at : ℕ) (l : Line) → WholeAt at line l → LineHas (got l next) i c r
+  pub is : (s : List ℕ) (l : Line) → WholeIn s line l → LineHas (got l next) i c r
 
 -- refusal 3 for a line at a place that has more than 200 bytes
 unfoldable pub shortKind : ℕ → LineKind → LineKind

@@ -167,12 +167,14 @@ pub data Begun : Type 0 where
   let-word : Word → Begun
   whole : Line → Begun
 
-unfoldable pub lineRows : List (Row Begun)
-lineRows =
-    row "let" (first readWord let-word)
-    ∷ row "show" (one readWord (λ w. whole (show-line w)))
+unfoldable pub wholeRows : List (Row Begun)
+wholeRows =
+    row "show" (one readWord (λ w. whole (show-line w)))
     ∷ row "total" (closing (whole total-line))
     ∷ []
+
+unfoldable pub lineRows : List (Row Begun)
+lineRows = row "let" (first readWord let-word) ∷ wholeRows
 
 unfoldable pub readBegun : List ℕ → ℕ → Got Begun
 readBegun s at = readRows lineRows s at
@@ -218,5 +220,5 @@ readSheet s = sheetStep (readHead s) (readLines 95 2 0 s)
 
 -- `unfolding reading` under a theorem's signature has the reader computed.
 unfoldable pub reading : Bool
-unfolding letter wordChar digit codeFrom _then_ charsIf chars wordIf readWord partEnd partIf wholeStep readWhole signIf readNum argsStep readArgs orNum readLeaf exprStep readExpr orElse opening spaced closing limit more readThe _or_ fromRows readRows headRows readHead lineRows readBegun rest readLine allowed after permitted _thenᶠ_ linesStep readLines sheetStep readSheet
+unfolding letter wordChar digit codeFrom _then_ charsIf chars wordIf readWord partEnd partIf wholeStep readWhole signIf readNum argsStep readArgs orNum readLeaf exprStep readExpr orElse opening spaced closing limit more readThe _or_ fromRows readRows headRows readHead wholeRows lineRows readBegun rest readLine allowed after permitted _thenᶠ_ linesStep readLines sheetStep readSheet
 reading = true

@@ -1,17 +1,15 @@
 -- The contracts' views: what the code answers, said of what the reader of Reader.antt reads.
 -- No part of what must be believed: they only tie the code to the reader, and what the code does for a sheet is said by the grammar and the claim.
 use Prim.Native.Nat.{ℕ, _+_, _-_, _*_, _≤_}
-use Prim.Native.String.{String}
 use mathlib.Core.Path.{_≡_}
 use mathlib.Core.Bool.{Bool, true, false}
 use mathlib.Core.List.{List, [], _∷_}
 use lib.Dec.{eqb, leb}
 use lib.ListN.{length, getD, drop}
-use Rattle.sheets.specs.Text.{Word, ascii}
+use Rattle.sheets.specs.Text.{Word}
 use Rattle.sheets.specs.Trees.{Num, decimalFrom, numDigits, Line, let-line, show-line, total-line, Head, wgs84, custom, Sheet}
-use Rattle.sheets.specs.Grammar.{IsWord}
 use Rattle.sheets.specs.code.reader.Codes.{codeOf}
-use Rattle.sheets.specs.code.reader.Reader.{Got, none, got, opening, closing, limit, Begun, let-word, whole, readBegun, Form, formed, badLine}
+use Rattle.sheets.specs.code.reader.Reader.{Got, none, got, readWord, opening, closing, limit, fromRows, Begun, let-word, whole, lineRows, Form, formed, badLine}
 use Rattle.sheets.specs.Table.{when}
 use Rattle.sheets.specs.Limits.{numValue}
 use Rattle.sheets.specs.declared.reader.bytes.WordRead.{WordRead}
@@ -97,26 +95,26 @@ unfoldable pub namedAt : ℕ → Got Word → NameRead
 namedAt at none = NameRead.Not
 namedAt at (got w n) = NameRead.Is (nameAt w at) n
 
--- the place behind `(`, the word that opens the line at a place, and a space
-abbrev pub behind : String → ℕ → ℕ
-behind k at = at + length (ascii k) + 2
+-- what the code answers of what a row reads behind the word that opens a line, up to n: a let with its word and the place of its expression, or a line read whole and the place of the next one; a let is never read whole
+unfoldable pub headTold : ℕ → Got Begun → LineHead
+headTold n none = LineHead.Bad
+headTold n (got (let-word w) m) = LineHead.Let (nameAt w (n + 1)) m
+headTold n (got (whole (show-line w)) m) = LineHead.Whole (WholeLine.Show (nameAt w (n + 1))) m
+headTold n (got (whole total-line) m) = LineHead.Whole WholeLine.Total m
+headTold n (got (whole (let-line w x)) m) = LineHead.Bad
 
--- the head of the line at a place: a let with its word and the place of its expression, or a line read whole and the place of the next one; a let is never read whole
-unfoldable pub lineHead : ℕ → Got Begun → LineHead
-lineHead at none = LineHead.Bad
-lineHead at (got (let-word w) n) = LineHead.Let (nameAt w (behind "let" at)) n
-lineHead at (got (whole (show-line w)) n) = LineHead.Whole (WholeLine.Show (nameAt w (behind "show" at))) n
-lineHead at (got (whole total-line) n) = LineHead.Whole WholeLine.Total n
-lineHead at (got (whole (let-line w x)) n) = LineHead.Bad
+unfoldable pub headOpened : List ℕ → Got Word → LineHead
+headOpened s none = LineHead.Bad
+headOpened s (got k n) = headTold n (fromRows lineRows (codeOf k) s n)
 
--- the code has this of the line l, which it read whole at a place
-abbrev pub WholeAt : ℕ → WholeLine → Line → Type 0
-WholeAt at (WholeLine.Show name) l = (w : Word) × IsWord w × (name ≡ nameAt w (behind "show" at)) × (l ≡ show-line w)
-WholeAt at WholeLine.Total l = l ≡ total-line
+-- the head of the line at a place
+abbrev pub lineHead : List ℕ → ℕ → LineHead
+lineHead s at = headOpened s (opening s at)
 
--- r is the head of the line at a place where the word with this code opens it, up to n, and it is no let
-pub record WholeHead (s : List ℕ) (at code n : ℕ) (r : LineHead) : Type 0 where
-  pub is : WordRead.Is code n ≡ coded (opening s at) → (code ≡ codeOf (ascii "let") → ⊥) → r ≡ lineHead at (readBegun s at)
+-- the code has this of the line l, which was read whole
+abbrev pub WholeIn : List ℕ → WholeLine → Line → Type 0
+WholeIn s (WholeLine.Show name) l = (w : Word) × (readWord s (name .from) ≡ got w (name .end)) × (codeOf w ≡ name .code) × (l ≡ show-line w)
+WholeIn s WholeLine.Total l = l ≡ total-line
 
 -- line 1: its two numbers as doubles, where it has them, and the place of the next line
 unfoldable pub headOf : Got Head → HeadRead

@@ -1,7 +1,7 @@
 -- `sheets::reader::lines::line_head` meets its contract. Assumes nothing.
-use mathlib.Core.Path.{sym, _∙_}
+use mathlib.Core.Path.{_∙_}
 use Rattle.sheets.specs.declared.reader.lines.LineHead.{LineHead}
-use Rattle.sheets.proofs.reader.LineSteps.{head-no-word, opens-let, unnamed, name-told}
+use Rattle.sheets.proofs.reader.LineSteps.{head-no-word, head-opened, opens-let, opens-whole, unnamed, name-told}
 use Rattle.sheets.specs.code.reader.Codes.{wordChar, codeFrom}
 use borrow.Author.Needs.{needs}
 use Rattle.sheets.proofs.reader.lines.line_head.Statement.{statement}
@@ -33,15 +33,15 @@ whole-head-requires c κs = search needs
 
 returns-2 : tie.Need-returns-2
 unfolding wordChar codeFrom
-returns-2 c = name-told _ _ LineHead.Let _ (opens-let _ _ _ (c .before .before .before .before .before .before .before .before .line-word .ensures) _ _ (c .before .before .before .before .before .before .k .given .1) (c .before .before .before .before .match2 .keys1)) _ (c .before .before .before .first-word .ensures) _ _ (c .before .r .given .1)
+returns-2 c = name-told _ _ LineHead.Let _ (opens-let _ _ _ (c .before .before .before .before .match2 .keys1)) _ (c .before .before .before .first-word .ensures) _ _ (c .before .r .given .1) ∙ head-opened _ _ _ (c .before .before .before .before .before .before .before .before .line-word .ensures) _ _ (c .before .before .before .before .before .before .k .given .1)
 
 returns-3 : tie.Need-returns-3
 unfolding wordChar codeFrom
-returns-3 c = unnamed _ _ LineHead.Let _ (opens-let _ _ _ (c .before .before .before .before .before .before .before .line-word .ensures) _ _ (c .before .before .before .before .before .k .given .1) (c .before .before .before .match2 .keys1)) _ (c .before .before .first-word .ensures) (c .enum-told2 .given .1)
+returns-3 c = unnamed _ _ LineHead.Let _ (opens-let _ _ _ (c .before .before .before .match2 .keys1)) _ (c .before .before .first-word .ensures) (c .enum-told2 .given .1) ∙ head-opened _ _ _ (c .before .before .before .before .before .before .before .line-word .ensures) _ _ (c .before .before .before .before .before .k .given .1)
 
 returns-4 : tie.Need-returns-4
 unfolding wordChar codeFrom
-returns-4 c = c .whole-head .ensures .is (sym (c .before .before .before .k .given .1) ∙ c .before .before .before .before .before .line-word .ensures) (c .before .match2 .rest .1)
+returns-4 c = c .whole-head .ensures ∙ opens-whole _ _ _ (c .before .match2 .rest .1) ∙ head-opened _ _ _ (c .before .before .before .before .before .line-word .ensures) _ _ (c .before .before .before .k .given .1)
 
 pub line-head-spec : {M : Type 1} → statement M
 line-head-spec =

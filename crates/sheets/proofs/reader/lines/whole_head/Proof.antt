@@ -1,5 +1,4 @@
 -- `sheets::reader::lines::whole_head` meets its contract. Assumes nothing.
-use mathlib.Core.Path.{refl}
 use Rattle.sheets.specs.declared.reader.lines.WholeLine.{WholeLine}
 use Rattle.sheets.specs.declared.reader.lines.LineHead.{LineHead}
 use Rattle.sheets.proofs.reader.LineSteps.{opens-show, opens-total, opens-none, unnamed, name-told, unclosed, close-told}
@@ -28,23 +27,23 @@ enum-told-2 c = search needs
 
 returns : tie.Need-returns
 unfolding wordChar codeFrom
-returns c = record { is = λ o l. name-told _ _ (λ y m. LineHead.Whole (WholeLine.Show y) m) _ (opens-show _ _ _ o _ _ refl (c .before .before .before .before .match .keys1)) _ (c .before .before .before .one-word .ensures) _ _ (c .before .r .given .1) }
+returns c = name-told _ _ (λ y m. LineHead.Whole (WholeLine.Show y) m) _ (opens-show _ _ _ (c .before .before .before .before .match .keys1)) _ (c .before .before .before .one-word .ensures) _ _ (c .before .r .given .1)
 
 returns-2 : tie.Need-returns-2
 unfolding wordChar codeFrom
-returns-2 c = record { is = λ o l. unnamed _ _ (λ y m. LineHead.Whole (WholeLine.Show y) m) _ (opens-show _ _ _ o _ _ refl (c .before .before .before .match .keys1)) _ (c .before .before .one-word .ensures) (c .enum-told .given .1) }
+returns-2 c = unnamed _ _ (λ y m. LineHead.Whole (WholeLine.Show y) m) _ (opens-show _ _ _ (c .before .before .before .match .keys1)) _ (c .before .before .one-word .ensures) (c .enum-told .given .1)
 
 returns-3 : tie.Need-returns-3
 unfolding wordChar codeFrom
-returns-3 c = record { is = λ o l. close-told _ _ _ _ (opens-total _ _ _ o _ _ refl (c .before .before .before .before .match .keys2)) _ (c .before .before .before .closing .ensures) _ (c .before .r2 .given .1) }
+returns-3 c = close-told _ _ _ _ (opens-total _ _ _ (c .before .before .before .before .match .keys2)) _ (c .before .before .before .closing .ensures) _ (c .before .r2 .given .1)
 
 returns-4 : tie.Need-returns-4
 unfolding wordChar codeFrom
-returns-4 c = record { is = λ o l. unclosed _ _ _ _ (opens-total _ _ _ o _ _ refl (c .before .before .before .match .keys2)) _ (c .before .before .closing .ensures) (c .enum-told2 .given .1) }
+returns-4 c = unclosed _ _ _ _ (opens-total _ _ _ (c .before .before .before .match .keys2)) _ (c .before .before .closing .ensures) (c .enum-told2 .given .1)
 
 returns-5 : tie.Need-returns-5
 unfolding wordChar codeFrom
-returns-5 c = record { is = λ o l. opens-none _ _ _ o _ _ refl l (c .match .rest .0 .1) (c .match .rest .1) }
+returns-5 c = opens-none _ _ _ (c .match .rest .0 .1) (c .match .rest .1)
 
 pub whole-head-spec : {M : Type 1} → statement M
 whole-head-spec =
