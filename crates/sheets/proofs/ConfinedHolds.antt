@@ -25,11 +25,11 @@ use Rattle.sheets.proofs.ClaimHolds.{refusal-some, Says, says}
 -- ---- the verdict by what is lent
 
 -- what is lent has its length, and the verdict says what it says; or it is a refusal
-abbrev LentSays : Bool → List ℕ → Verdict → Type 0
+abbrev pub LentSays : Bool → List ℕ → Verdict → Type 0
 LentSays l S (admitted c cs) = (l ≡ true) × Says S (admitted c cs)
 LentSays l S (refused r j) = Unit {0}
 
-lent-says : (S : List ℕ) (l : Bool) (o : Form Sheet) → Reads S o → LentSays l S (verdict l S o)
+pub lent-says : (S : List ℕ) (l : Bool) (o : Form Sheet) → Reads S o → LentSays l S (verdict l S o)
 unfolding verdict
 lent-says S true o w = go (verdict true S o) (says S o w)
   where

@@ -1,10 +1,10 @@
--- Every frame that the machine makes is sound. The law of values: numbers, lengths and positions are of doubles, a geodetic position's n-vector went through `Vec3::new`, a frame is sound. Assumes nothing.
+-- Every frame that the machine makes is sound, and every value shown good. The law of values: numbers, lengths and positions are of doubles, a geodetic position's n-vector went through `Vec3::new`, a frame is sound. Assumes nothing.
 use mathlib.Core.List.{List, [], _∷_}
 use mathlib.Core.Option.{Option, none, some}
-use Prim.Native.Nat.{ℕ}
 use lib.Ieee.{Float, binary64}
 use lib.Ieee.Fits.{round-fits, add-fits}
 use Rattle.numbers.specs.Ops.{num}
+use Rattle.numbers.specs.Lengths.{metres}
 use Rattle.numbers.specs.declared.Length.{Length}
 use Rattle.numbers.proofs.FitLaws.{Fits, decimal-fits}
 use Rattle.frames.proofs.PositionLaws.{FitPosition, SettledPosition, geocentric-fits, geodeticToGeocentric-fits, latlong-settled, geocentricToGeodetic-settled}
@@ -19,7 +19,8 @@ use Rattle.sheets.specs.Entries.{Entry, shown, summed, entryValue, plus,
 use Rattle.sheets.specs.Limits.{numValue}
 use Rattle.sheets.specs.Machine.{machine}
 use Rattle.sheets.specs.Claim.{All, framesMade}
-use Rattle.sheets.proofs.Trace.{Keeps, lastState, good-ran}
+use Rattle.sheets.proofs.LineWrites.{lastState}
+use Rattle.sheets.proofs.Trace.{Keeps, good-ran}
 
 abbrev pub Good : Value → Type 0
 Good (Number x) = Fits x
@@ -36,13 +37,13 @@ nums q = round-fits binary64 _ _ _
 
 sums : (es : List Entry) → Good (Metres (total es))
 unfolding total
-sums es = go (num 0) es (decimal-fits 0 0)
+sums es = go (metres (num 0)) es (decimal-fits 0 0)
   where
-    plus-fits : (t : Float) (o : Option Length) → Fits t → Fits (plus t o)
+    plus-fits : (t : Length) (o : Option Length) → Fits (t .0) → Fits (plus t o .0)
     plus-fits t none h = h
-    plus-fits t (some l) h = add-fits binary64 t (l .0)
+    plus-fits t (some l) h = add-fits binary64 (t .0) (l .0)
 
-    go : (t : Float) (es : List Entry) → Fits t → Fits (sumFrom t es)
+    go : (t : Length) (es : List Entry) → Fits (t .0) → Fits (sumFrom t es .0)
     go t [] h = h
     go t (shown i w x ∷ es) h = go (plus t (held 𝐥 x)) es (plus-fits t (held 𝐥 x) h)
     go t (summed u ∷ es) h = go t es h
@@ -174,6 +175,6 @@ rows = (
 pub every-frame : (c : Sheet) (rs : List Float) → All Fits rs → All Sound (framesMade (machine c rs))
 every-frame c rs h = good-ran Good Sound nums sums rows c rs (decimal-fits 0 0) h .0
 
--- and every length shown is a double
-pub every-length : (c : Sheet) (rs : List Float) → All Fits rs → All (λ a. Good (entryValue a)) (lastState (machine c rs) .entries)
-every-length c rs h = good-ran Good Sound nums sums rows c rs (decimal-fits 0 0) h .1
+-- and every value shown is good: a length is a double
+pub every-shown : (c : Sheet) (rs : List Float) → All Fits rs → All (λ a. Good (entryValue a)) (lastState (machine c rs) .entries)
+every-shown c rs h = good-ran Good Sound nums sums rows c rs (decimal-fits 0 0) h .1

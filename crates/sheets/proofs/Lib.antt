@@ -3,11 +3,11 @@ pub mod BearingLimit
 pub mod Alike
 pub mod Agree
 pub mod Sound
+pub mod LineWrites
 pub mod Trace
 pub mod EveryFrame
 pub mod ClaimHolds
 pub mod ConfinedHolds
-pub mod LineWrites
 pub mod TotalText
 pub mod TotalsHold
 pub mod OwedOnce

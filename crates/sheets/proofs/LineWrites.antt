@@ -1,4 +1,4 @@
--- What a line writes: one entry more or none, under a WORD. Assumes nothing.
+-- What a line writes: one entry more or none, under a WORD; and the state in which a run came to its end. Assumes nothing.
 use mathlib.Core.Path.{_≡_, refl}
 use mathlib.Core.List.{List, [], _∷_, _++_}
 use Prim.Native.Nat.{ℕ}
@@ -11,8 +11,8 @@ use Rattle.sheets.specs.Grammar.{IsWord, IsLine}
 use Rattle.sheets.specs.Names.{lookup, givenOn}
 use Rattle.sheets.specs.Scopes.{give}
 use Rattle.sheets.specs.Entries.{shown, summed, total}
-use Rattle.sheets.specs.Machine.{Out, goes, stops, sticks, after, then, met, meet, eval, State, orSticks, step}
-use Rattle.sheets.specs.Totals.{Writes, a-show, a-total, nothing, writes}
+use Rattle.sheets.specs.Machine.{Out, goes, stops, sticks, after, then, met, meet, eval, State, orSticks, step, Ran, done, stopped, stuck, afterwards}
+use Rattle.sheets.specs.Writes.{Writes, a-show, a-total, nothing, writes}
 
 -- what holds of the result of a step that goes on
 abbrev pub Left : {A : Type 0} → (A → Type 0) → Out A → Type 0
@@ -52,3 +52,14 @@ pub line-named : (l : Line) → IsLine l → Named (writes l)
 line-named (let-line w x) h = tt
 line-named (show-line w) h = h .0 .1 .0
 line-named total-line h = h .0 .0
+
+-- ---- the state in which a run came to its end
+abbrev pub lastState : Ran → State
+lastState (done fs s) = s
+lastState (stopped fs r i s) = s
+lastState (stuck fs i s) = s
+
+pub last-after : (fs : List LocalFrame) (r : Ran) → lastState (afterwards fs r) ≡ lastState r
+last-after fs (done hs s) = refl
+last-after fs (stopped hs c i s) = refl
+last-after fs (stuck hs i s) = refl

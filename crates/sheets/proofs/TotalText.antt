@@ -2,11 +2,11 @@
 use mathlib.Core.Path.{_≡_, refl, sym, ap, _∙_}
 use mathlib.Core.List.{List, [], _∷_, _++_, map, append-assoc, append-nil}
 use mathlib.Core.Option.{none, some}
-use mathlib.Core.Logic.{_⊎_, inl, inr}
 use mathlib.Core.Bool.{Bool, true, false, cond}
 use Prim.Native.Nat.{ℕ, zero, suc, _+_, _-_, _*_, _/_, _%_, _^_, _<_, _≤_}
 use native.Mathlib.Omega.{arith}
 use lib.Dec.{eqb, ltb}
+use lib.ListN.{length}
 use lib.Ieee.{Float, binary64, ofBits, toBits}
 use lib.Ieee.Bits.{ofBits-toBits, toBits-lt}
 use borrow.Author.Tests.{ne-eqb, ltb-true, ltb-false}
@@ -15,18 +15,18 @@ use Rattle.numbers.specs.declared.Length.{Length}
 use Rattle.frames.specs.declared.Orientation.{Orientation}
 use Rattle.frames.specs.declared.Orientation.the-variants.{Enu, Ned, Body, Wan}
 use Rattle.sheets.specs.declared.Value.{Value}
-use Rattle.sheets.specs.declared.Value.the-variants.{Number, Radians, Metres, Geocentric, Geodetic, Vector, Frame}
+use Rattle.sheets.specs.declared.Value.the-variants.{Metres}
 use Rattle.sheets.specs.Text.{Word, ascii, _⌢_, lf}
-use Rattle.sheets.specs.Grammar.{Letter, Digit, Each, IsWord}
+use Rattle.sheets.specs.Grammar.{IsWord}
 use Rattle.sheets.specs.Kinds.{Kind, number, angle, len, geocentric, geodetic, vector, frame, kindOf, orientationName, kindName}
 use Rattle.sheets.specs.Letters.{𝐥, held}
-use Rattle.sheets.specs.Output.{hexDigit, hex, fields, field, fieldsText, outputLine}
-use Rattle.sheets.specs.Entries.{Entry, entryName, entryValue, entryLine, entryLines}
+use Rattle.sheets.specs.Output.{hexDigit, hex, fields, fieldsText, outputLine}
+use Rattle.sheets.specs.Entries.{Entry, entryName, entryValue, entryLines}
 use Rattle.sheets.specs.Claim.{All}
-use Rattle.sheets.specs.Totals.{cutIf, cut, textLines, behindIf, behindSpace, digitValue, hexValue, lengthFrom, lengthIn}
+use Rattle.sheets.specs.Totals.{cut, textLines, digitValue, hexValue, lengthIn}
 use Rattle.sheets.proofs.ByCases.{by-cases}
-use Rattle.sheets.proofs.reader.CodeLaws.{word-chars}
 use Rattle.sheets.proofs.reader.LineNumbers.{countLF, NoLF, _also_, text, word-none}
+use Rattle.sheets.proofs.run.TextBound.{hex-length}
 use Rattle.sheets.proofs.EveryFrame.{Good}
 
 -- ---- a field's digits
@@ -65,11 +65,14 @@ hex-back (suc k) b t h =
     ∙ ap (λ n. hexValue n t) (omega arith)
 
 -- a length's field
-length-back : (l : Length) → Good (Metres l) → some (metres (ofBits binary64 (hexValue 0 (hex 16 (toBits binary64 (l .0)) [] ++ [])))) ≡ some l
+length-back : (l : Length) → Good (Metres l) → lengthIn (ascii "l" ⌢ fieldsText (l .0 ∷ [])) ≡ some l
 unfolding hexValue
 length-back l h =
-    ap (λ s. some (metres (ofBits binary64 (hexValue 0 s)))) (append-nil (hex 16 (toBits binary64 (l .0)) []))
-    ∙ ap (λ n. some (metres (ofBits binary64 n))) (hex-back 16 (toBits binary64 (l .0)) [] (toBits-lt binary64 (l .0) h))
+    let b = toBits binary64 (l .0) in
+    let d = append-nil (hex 16 b []) in
+    ap (λ n. cond (eqb n 18) (some (metres (ofBits binary64 (hexValue 0 (hex 16 b [] ++ []))))) none) (ap (λ (s : List ℕ). 2 + length s) d ∙ ap (λ n. 2 + n) (hex-length 16 b []))
+    ∙ ap (λ s. some (metres (ofBits binary64 (hexValue 0 s)))) d
+    ∙ ap (λ n. some (metres (ofBits binary64 n))) (hex-back 16 b [] (toBits-lt binary64 (l .0) h))
     ∙ ap (λ x. some (metres x)) (ofBits-toBits binary64 (l .0) h)
 
 -- ---- an output line without its LF
@@ -77,25 +80,13 @@ length-back l h =
 abbrev pub bare : Word → Value → List ℕ
 bare w x = w ⌢ ascii " " ⌢ kindName (kindOf x) ⌢ fieldsText (fields x)
 
-behind-word : (w s : List ℕ) → Each (λ b. Letter b ⊎ Digit b) w → behindSpace (w ++ (32 ∷ s)) ≡ s
-unfolding behindSpace
-behind-word [] s h = refl
-behind-word (b ∷ w) s h = ap (λ c. behindIf c (w ++ (32 ∷ s)) (behindSpace (w ++ (32 ∷ s)))) (ne-eqb b 32 (other (h .0))) ∙ behind-word w s (h .1)
-  where
-    other : Letter b ⊎ Digit b → b ≡ 32 → ⊥
-    other (inl h) e = omega arith
-    other (inr h) e = omega arith
-
 abbrev Reads : Value → Type 0
-Reads x = Good x → lengthFrom (kindName (kindOf x) ⌢ fieldsText (fields x)) ≡ held 𝐥 x
+Reads x = Good x → lengthIn (kindName (kindOf x) ⌢ fieldsText (fields x)) ≡ held 𝐥 x
 
-value-reads : (x : Value) → Reads x
+-- the length behind its name is that of the value that it shows
+pub value-reads : (x : Value) → Reads x
 unfolding held
 value-reads = by-cases Reads (λ x h. refl) (λ x h. refl) (λ x h. length-back x h) (λ x h. refl) (λ x h. refl) (λ x h. refl) (λ x h. refl)
-
--- the length in a line is that of the value that it shows
-pub line-reads : (w : Word) (x : Value) → IsWord w → Good x → lengthIn (bare w x) ≡ held 𝐥 x
-line-reads w x hw h = ap lengthFrom (behind-word w (kindName (kindOf x) ⌢ fieldsText (fields x)) (word-chars w hw)) ∙ value-reads x h
 
 -- ---- the lines of a text
 
@@ -107,7 +98,7 @@ cut-line l (b ∷ a) s h = go (eqb b 10) refl h (cut-line (l ++ (b ∷ [])) a s)
     go : (c : Bool) → eqb b 10 ≡ c → cond c 1 0 + countLF a ≡ 0 → (countLF a ≡ 0 → cut (l ++ (b ∷ [])) (a ++ (10 ∷ s)) ≡ ((l ++ (b ∷ [])) ++ a) ∷ cut [] s) → cut l (b ∷ (a ++ (10 ∷ s))) ≡ (l ++ (b ∷ a)) ∷ cut [] s
     go true e h k = absurd (omega arith)
     go false e h k =
-        ap (λ c. cutIf c l (cut [] (a ++ (10 ∷ s))) (cut (l ++ (b ∷ [])) (a ++ (10 ∷ s)))) e
+        ap (λ c. cond c (l ∷ cut [] (a ++ (10 ∷ s))) (cut (l ++ (b ∷ [])) (a ++ (10 ∷ s)))) e
         ∙ k (omega arith)
         ∙ ap (λ (z : List ℕ). z ∷ cut [] s) (append-assoc l (b ∷ []) a)
 

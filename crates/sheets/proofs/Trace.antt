@@ -21,12 +21,7 @@ use Rattle.sheets.specs.Scopes.{giveIf}
 use Rattle.sheets.specs.Limits.{numValue, inLimit}
 use Rattle.sheets.specs.Machine.{Out, goes, stops, sticks, after, then, test, met, meet, made, result, provided, applyRow, eval, evals, State, rescoped, write, step, Ran, done, stopped, stuck, afterwards, onward, steps, readings, start, machine}
 use Rattle.sheets.specs.Claim.{All, framesMade}
-
--- the state in which a run came to its end
-abbrev pub lastState : Ran → State
-lastState (done fs s) = s
-lastState (stopped fs r i s) = s
-lastState (stuck fs i s) = s
+use Rattle.sheets.proofs.LineWrites.{lastState}
 
 each-append : {A : Type 0} (P : A → Type 0) (xs ys : List A) → All P xs → All P ys → All P (xs ++ ys)
 each-append P [] ys h k = k

@@ -20,9 +20,9 @@ pub record TriedTotals (P : String → List Float → ℕ → ℕ → String →
   -- minus zero alone: the sum is from zero
   pub minus-zero : P "(ellipsoid wgs84)\n(let a (m -0))\n(show a)\n(total)\n" [] 0 0 "a l 8000000000000000\ntotal l 0000000000000000\n"
   -- other kinds do not count; a name may be `total`, and its shows do
-  pub other-kinds : P "(ellipsoid wgs84)\n(let total (m 2))\n(let b (deg 0))\n(show r0)\n(show b)\n(show total)\n(total)\n" (ofBits binary64 0x4014_0000_0000_0000 ∷ []) 0 0 "r0 n 4014000000000000\nb a 0000000000000000\ntotal l 4000000000000000\ntotal l 4000000000000000\n"
+  pub other-kinds : P "(ellipsoid wgs84)\n(let total (m 2))\n(let b (deg 90))\n(show r0)\n(show b)\n(show total)\n(total)\n" (ofBits binary64 0x4014_0000_0000_0000 ∷ []) 0 0 "r0 n 4014000000000000\nb a 3ff921fb54442d18\ntotal l 4000000000000000\ntotal l 4000000000000000\n"
   -- in line order: 2^-27 is lost behind 10^8, both times; added to each other first the two would count
-  pub in-order : P "(ellipsoid wgs84)\n(let a (m 100000000))\n(let b (m r0))\n(show a)\n(show b)\n(show b)\n(total)\n(show b)\n" (ofBits binary64 0x3e40_0000_0000_0000 ∷ []) 0 0 "a l 4197d78400000000\nb l 3e40000000000000\nb l 3e40000000000000\ntotal l 4197d78400000000\nb l 3e40000000000000\n"
+  pub in-order : P "(ellipsoid wgs84)\n(let a (m 100000000))\n(let b (m r0))\n(show a)\n(show b)\n(show b)\n(total)\n" (ofBits binary64 0x3e40_0000_0000_0000 ∷ []) 0 0 "a l 4197d78400000000\nb l 3e40000000000000\nb l 3e40000000000000\ntotal l 4197d78400000000\n"
   -- it gives no name
   pub no-name : P "(ellipsoid wgs84)\n(total)\n(show total)\n" [] 5 3 ""
   -- near misses

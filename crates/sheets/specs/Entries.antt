@@ -2,9 +2,8 @@
 use Prim.Native.Nat.{ℕ}
 use mathlib.Core.List.{List, [], _∷_}
 use mathlib.Core.Option.{Option, none, some}
-use lib.Ieee.{Float}
-use Rattle.numbers.specs.Ops.{_⊕_, num}
-use Rattle.numbers.specs.Lengths.{metres}
+use Rattle.numbers.specs.Ops.{num}
+use Rattle.numbers.specs.Lengths.{metres, lengthAdd}
 use Rattle.numbers.specs.declared.Length.{Length}
 use Rattle.sheets.specs.declared.Value.{Value}
 use Rattle.sheets.specs.declared.Value.the-variants.{Metres}
@@ -33,17 +32,17 @@ abbrev pub entryLines : List Entry → List ℕ
 entryLines [] = []
 entryLines (e ∷ es) = entryLine e ⌢ entryLines es
 
--- ---- a total, after document 02, request Two: the sum, from zero in line order, of every l value shown, totals aside
+-- ---- a total, after document 02, request Two: the sum, from +0 in line order, of every l value shown, totals aside
 
 -- a sum and the length behind it, where there is one
-abbrev pub plus : Float → Option Length → Float
+abbrev pub plus : Length → Option Length → Length
 plus t none = t
-plus t (some l) = t ⊕ l .0
+plus t (some l) = lengthAdd t l
 
-abbrev pub sumFrom : Float → List Entry → Float
+abbrev pub sumFrom : Length → List Entry → Length
 sumFrom t [] = t
 sumFrom t (shown i w x ∷ es) = sumFrom (plus t (held 𝐥 x)) es
 sumFrom t (summed s ∷ es) = sumFrom t es
 
 unfoldable pub total : List Entry → Length
-total es = metres (sumFrom (num 0) es)
+total es = sumFrom (metres (num 0)) es

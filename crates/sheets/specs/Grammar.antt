@@ -85,7 +85,7 @@ printHead h = ended (headBracket h)
 abbrev pub IsHead : Head → Type 0
 IsHead h = IsEnded (headBracket h)
 
--- Every other line is `(let WORD EXPR)` or `(show WORD)`; by document 02, request Two, or `(total)`.
+-- Every other line is `(let WORD EXPR)`, `(show WORD)` or, by document 02, request Two, `(total)`.
 abbrev pub lineBracket : Line → Expr
 lineBracket (let-line w x) = form-expr (ascii "let") (word-expr w ▸ x ▸ nil)
 lineBracket (show-line w) = form-expr (ascii "show") (word-expr w ▸ nil)

@@ -11,6 +11,7 @@ pub mod Scopes
 pub mod Limits
 pub mod Output
 pub mod Entries
+pub mod Writes
 pub mod Machine
 pub mod Check
 pub mod Admitted

@@ -48,7 +48,7 @@ abbrev pub test : List LocalFrame → Bool → Value → Out Value
 test fs true x = goes fs x
 test fs false x = stops fs limit
 
--- a NUM's or a word's value is tested where it is met
+-- a NUM's or a word's value is tested where it is met, and a total's sum on its line
 abbrev pub met : Value → Out Value
 met x = test [] (inLimit x) x
 
@@ -106,11 +106,11 @@ rescoped s c = then (orSticks c) (λ d. goes [] (record { ellipsoid = s .ellipso
 abbrev pub write : State → Entry → State
 write s e = record { ellipsoid = s .ellipsoid; scope = s .scope; entries = s .entries ++ (e ∷ []) }
 
--- line i: a let's expression is read before its name is given; a total's sum is tested as an l
+-- line i: a let's expression is read before its name is given; a total is the sum of what was shown before it
 unfoldable pub step : ℕ → State → Line → Out State
 step i s (let-line w x) = then (eval x (s .ellipsoid) (s .scope .known)) (λ y. rescoped s (give (givenOn i w y) (s .scope)))
 step i s (show-line w) = then (meet (lookup w (s .scope .known))) (λ y. goes [] (write s (shown i w y)))
-step i s total-line = then (met (Metres (total (s .entries)))) (λ y. goes [] (write s (summed (total (s .entries)))))
+step i s total-line = let t = total (s .entries) in then (met (Metres t)) (λ y. goes [] (write s (summed t)))
 
 -- ---- a sheet
 

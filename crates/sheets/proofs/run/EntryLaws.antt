@@ -103,20 +103,15 @@ module _ (es : List Entry) (js kinds : List ℕ) (f : List Float) (n : ℕ) (h :
 
 -- ---- the sum of the lengths shown: one addition at each
 
-sum-append : (t : Float) (es ds : List Entry) → sumFrom t (es ++ ds) ≡ sumFrom (sumFrom t es) ds
+sum-append : (t : Length) (es ds : List Entry) → sumFrom t (es ++ ds) ≡ sumFrom (sumFrom t es) ds
 sum-append t [] ds = refl
 sum-append t (shown i w x ∷ es) ds = sum-append (plus t (held 𝐥 x)) es ds
 sum-append t (summed u ∷ es) ds = sum-append t es ds
 
-module _ (es : List Entry) (t : Float) (h : metres t ≡ total es) where
-  sum-is : t ≡ sumFrom (num 0) es
-  unfolding total
-  sum-is = ap (λ (l : Length). l .0) h
+pub total-show : (es : List Entry) (i : ℕ) (w : Word) (x : Value) → total (es ++ (shown i w x ∷ [])) ≡ plus (total es) (held 𝐥 x)
+unfolding total
+total-show es i w x = sum-append (metres (num 0)) es (shown i w x ∷ [])
 
-  pub total-show : (i : ℕ) (w : Word) (x : Value) → metres (plus t (held 𝐥 x)) ≡ total (es ++ (shown i w x ∷ []))
-  unfolding total
-  total-show i w x = ap metres (ap (λ u. plus u (held 𝐥 x)) sum-is ∙ sym (sum-append (num 0) es (shown i w x ∷ [])))
-
-  pub total-total : (u : Length) → metres t ≡ total (es ++ (summed u ∷ []))
-  unfolding total
-  total-total u = ap metres (sum-is ∙ sym (sum-append (num 0) es (summed u ∷ [])))
+pub total-total : (es : List Entry) (u : Length) → total (es ++ (summed u ∷ [])) ≡ total es
+unfolding total
+total-total es u = sum-append (metres (num 0)) es (summed u ∷ [])

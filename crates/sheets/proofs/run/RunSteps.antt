@@ -5,7 +5,7 @@ use mathlib.Core.Path.{_≡_, refl, sym, ap, subst, _∙_}
 use mathlib.Core.Bool.{Bool, true, false}
 use mathlib.Core.List.{List, [], _∷_, _++_}
 use lib.Dec.{leb}
-use lib.ListN.{length, getD, set, replicate, length-append, length-replicate}
+use lib.ListN.{length, getD, set, replicate, length-replicate}
 use lib.Ieee.{Float, ofBits, binary64}
 use borrow.Author.Tests.{leb-true, leb-false}
 use Rattle.numbers.specs.Ops.{num, decimal}
@@ -34,7 +34,7 @@ use Rattle.sheets.specs.code.run.Known.{Tabled, Ready}
 use Rattle.sheets.specs.code.run.Keeping.{shows, EntriesKept}
 use Rattle.sheets.specs.code.run.Evaluating.{Answers}
 use Rattle.sheets.specs.code.run.Running.{WithReadings, LetWith, GivenAt, stoppedAt, Runs}
-use Rattle.sheets.specs.code.run.Wholes.{wordNamed, WholeRuns}
+use Rattle.sheets.specs.code.run.Wholes.{wordNamed, LineDoes}
 use Rattle.sheets.proofs.reader.LineSteps.{head-says}
 use Rattle.sheets.proofs.reader.Inverse.{limit-read}
 use Rattle.sheets.proofs.reader.Walks.{Step, walk-end, walk-line}
@@ -170,7 +170,7 @@ module _ {s : List ℕ} {e : Ellipsoid} {rs : List Float} {d : List ℕ} {h : St
     -- ---- a line that is read whole
 
     module _ (head : LineHead) (eh : head ≡ lineHead s (h .at)) (y : WholeLine) (next : ℕ) (is : head ≡ LineHead.Whole y next) (high : h .line ≤ 96)
-        (c : ℕ) (ec : c ≡ wordNamed y) (j : ℕ) (hj : Search.Placed (h .words) (h .newest) c j) (x : Slot) (r : Evaluated) (shown : List ℕ) (sum : Float) (out : List ℕ) (hr : WholeRuns s y j (getD (h .slots) j x .value) (h .floats) (h .shown) (h .sum) (h .out) (h .written) r shown sum out) where
+        (c : ℕ) (ec : c ≡ wordNamed y) (j : ℕ) (hj : Search.Placed (h .words) (h .newest) c j) (x : Slot) (r : Evaluated) (shown : List ℕ) (sum : Float) (out : List ℕ) (hr : LineDoes s y j (getD (h .slots) j x .value) (h .floats) (h .shown) (h .sum) (h .out) (h .written) r shown sum out) where
       whole-here : (ls : List Line) (st : State) → Now s e rs d h ls st → (l : Line) (m : ℕ) → readLine s (h .at) ≡ got l m → (next ≡ m) × Comes h d st l r shown sum out
       whole-here ls st now l m el =
           let (k, t, ek) = head-says s (h .at) head eh _ is in

@@ -5,7 +5,6 @@ use Prim.Native.Nat.{ℕ, zero, suc, _≤_, _+_, _*_, _/_, _%_}
 use native.Mathlib.Omega.{arith}
 use lib.ListN.{length, length-append}
 use lib.Ieee.{Float, binary64, toBits}
-use Rattle.frames.specs.declared.LocalFrame.{LocalFrame}
 use Rattle.frames.specs.declared.Orientation.the-variants.{Enu, Ned, Body, Wan}
 use Rattle.sheets.specs.declared.Value.{Value}
 use Rattle.sheets.specs.declared.Value.the-variants.{Number, Radians, Metres, Geocentric, Geodetic, Vector, Frame}
@@ -15,13 +14,13 @@ use Rattle.sheets.specs.Grammar.{IsWord, IsLine, AreLines, IsSheet, afte
 use Rattle.sheets.specs.Kinds.{Kind, number, angle, len, geocentric, geodetic, vector, frame, kindOf, kindName}
 use Rattle.sheets.specs.Output.{hex, hexDigit, field, fields, fieldsText, outputLine}
 use Rattle.sheets.specs.Entries.{Entry, shown, summed, total, entryName, entryValue, entryLine, entryLines}
-use Rattle.sheets.specs.Machine.{Out, goes, stops, sticks, State, step, Ran, done, stopped, stuck, afterwards, onward, steps, start, machine}
-use Rattle.sheets.specs.Totals.{Writes, a-show, a-total, nothing, writes}
-use Rattle.sheets.proofs.LineWrites.{Left, Wrote, line-wrote, Named, line-named}
+use Rattle.sheets.specs.Machine.{Out, goes, stops, sticks, State, step, Ran, onward, steps, start, machine}
+use Rattle.sheets.specs.Writes.{Writes, a-show, a-total, nothing, writes}
+use Rattle.sheets.proofs.LineWrites.{Left, Wrote, line-wrote, Named, line-named, lastState, last-after}
 
 -- ---- an output line
 
-hex-length : (k b : ℕ) (t : List ℕ) → length (hex k b t) ≡ k + length t
+pub hex-length : (k b : ℕ) (t : List ℕ) → length (hex k b t) ≡ k + length t
 hex-length zero b t = omega arith
 hex-length (suc k) b t = hex-length k (b / 16) (hexDigit (b % 16) ∷ t) ∙ omega arith
 
@@ -105,18 +104,11 @@ longer-step i s l h = go (step i s l) (line-wrote i s l)
 
 -- the text of a run, however it came to its end
 abbrev pub ranText : Ran → List ℕ
-ranText (done fs s) = entryLines (s .entries)
-ranText (stopped fs c i s) = entryLines (s .entries)
-ranText (stuck fs i s) = entryLines (s .entries)
-
-afterwards-text : (fs : List LocalFrame) (r : Ran) → length (ranText (afterwards fs r)) ≡ length (ranText r)
-afterwards-text fs (done hs s) = refl
-afterwards-text fs (stopped hs c i s) = refl
-afterwards-text fs (stuck hs i s) = refl
+ranText r = entryLines (lastState r .entries)
 
 onward-text : (o : Out State) (i : ℕ) (s : State) (k : State → Ran) (m : ℕ) → Left (Longer s) o → ((t : State) → length (ranText (k t)) ≤ length (entryLines (t .entries)) + m)
     → length (ranText (onward o i s k)) ≤ length (entryLines (s .entries)) + (223 + m)
-onward-text (goes fs t) i s k m h j = let e = afterwards-text fs (k t) in let l = j t in omega arith
+onward-text (goes fs t) i s k m h j = omega (arith, ap (λ (s : State). length (entryLines (s .entries))) (last-after fs (k t)), j t)
 onward-text (stops fs c) i s k m h j = omega arith
 onward-text (sticks fs) i s k m h j = omega arith
 

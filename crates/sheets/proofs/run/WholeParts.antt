@@ -1,7 +1,7 @@
--- A line that is read whole: a law for each way out of `tested_line`, `plus`, `show_value`, `show`, `total` and `whole_line`. Assumes nothing.
+-- A line that is read whole: a law for each way out of `tested_line`, `plus`, `show_value`, `show` and `whole_line`. Assumes nothing.
 use Prim.Native.Nat.{ℕ, _+_, _<_, _≤_}
 use native.Mathlib.Omega.{arith}
-use mathlib.Core.Path.{_≡_, refl, sym, ap, subst, _∙_}
+use mathlib.Core.Path.{_≡_, refl, ap, subst, _∙_}
 use mathlib.Core.Bool.{Bool, true, false}
 use mathlib.Core.Option.{Option, none, some}
 use mathlib.Core.List.{List, []}
@@ -11,11 +11,10 @@ use borrow.Author.Tests.{eq-eqb, ne-eqb, le-leb, lt-leb}
 use Rattle.numbers.specs.Lengths.{metres}
 use Rattle.numbers.specs.declared.Length.{Length}
 use Rattle.sheets.specs.declared.Value.{Value}
-use Rattle.sheets.specs.declared.Value.the-variants.{Number, Metres}
+use Rattle.sheets.specs.declared.Value.the-variants.{Number}
 use Rattle.sheets.specs.declared.reader.lines.NameAt.{NameAt}
 use Rattle.sheets.specs.declared.reader.lines.WholeLine.{WholeLine}
 use Rattle.sheets.specs.declared.Evaluated.{Evaluated}
-use Rattle.sheets.specs.Text.{ascii}
 use Rattle.sheets.specs.Kinds.{kindOf, kindCode}
 use Rattle.sheets.specs.Letters.{𝐥, held}
 use Rattle.sheets.specs.Limits.{inLimit}
@@ -26,7 +25,7 @@ use Rattle.sheets.specs.code.run.Known.{readingIndex, foundAt}
 use Rattle.sheets.specs.code.run.Writing.{Written, lineIf, room}
 use Rattle.sheets.specs.code.run.Keeping.{keep}
 use Rattle.sheets.specs.code.run.Evaluating.{evaluated}
-use Rattle.sheets.specs.code.run.Wholes.{TestedIf, TestedLine, KeptIf, Shown, ShownAs, Wholly, WholeRuns}
+use Rattle.sheets.specs.code.run.Wholes.{TestedIf, TestedLine, KeptIf, Shown, ShownAs, TotalLine, Does, LineDoes}
 use Rattle.sheets.proofs.run.EntryLaws.{keep-size, keep-count}
 use Rattle.sheets.proofs.run.RunParts.{NotIs, not-is}
 
@@ -69,9 +68,9 @@ module _ (s : List ℕ) (name : NameAt) (v : Value) (j : ℕ) (js : List ℕ) (t
   unfolding Shown KeptIf
   show-out n = record { is = (h, rw (tested-not s (name .from) (name .end) v out written r d h n .2) (refl, refl)) }
 
-  pub show-in : (kind m : ℕ) → r ≡ Evaluated.Is kind m → (js′ : List ℕ) → js′ ≡ keep js j → (t′ : Float) → t′ ≡ plus t (held 𝐥 v) → ShownAs s name (some v) j js t out written (Evaluated.Is kind m) js′ t′ d
+  pub show-in : (kind m : ℕ) → r ≡ Evaluated.Is kind m → (js′ : List ℕ) → js′ ≡ keep js j → (l : Length) → l ≡ metres t → (u : Length) → u ≡ plus l (held 𝐥 v) → (t′ : Float) → t′ ≡ u .0 → ShownAs s name (some v) j js t out written (Evaluated.Is kind m) js′ t′ d
   unfolding Shown KeptIf
-  show-in kind m e js′ ej t′ et = record { is = (subst (λ r. TestedLine s (name .from) (name .end) v out written r d) e h, rw (tested-is s (name .from) (name .end) v out written r d h kind m e .1) (ej, et)) }
+  show-in kind m e js′ ej l el u eu t′ et = record { is = (subst (λ r. TestedLine s (name .from) (name .end) v out written r d) e h, rw (tested-is s (name .from) (name .end) v out written r d h kind m e .1) (ej, ap metres et ∙ eu ∙ ap (λ l. plus l (held 𝐥 v)) el)) }
 
 -- by the word's place
 module _ (s : List ℕ) (name : NameAt) (v : Value) (f : List Float) (j : ℕ) (js : List ℕ) (t : Float) (out : List ℕ) (written : ℕ) where
@@ -88,21 +87,16 @@ module _ (s : List ℕ) (name : NameAt) (v : Value) (f : List Float) (j : ℕ) (
   unfolding foundAt
   show-name z u eu r js′ t′ d h = rw (ne-eqb j 0 z, ← eu) h
 
--- ---- a total
-
-pub total-is : (t : Float) (l : Length) → l ≡ metres t → (out : List ℕ) (written : ℕ) (r : Evaluated) (d : List ℕ) → TestedLine (ascii "total") 0 5 (Metres l) out written r d → TestedLine (ascii "total") 0 5 (Metres (metres t)) out written r d
-total-is t l e out written r d h = subst (λ l. TestedLine (ascii "total") 0 5 (Metres l) out written r d) e h
-
 -- ---- a line by its form
 
 module _ (s : List ℕ) (line : WholeLine) (j : ℕ) (v : Value) (f : List Float) (js : List ℕ) (t : Float) (out : List ℕ) (written : ℕ) (r : Evaluated) (js′ : List ℕ) (t′ : Float) (d : List ℕ) where
-  pub whole-show : (name : NameAt) → line ≡ WholeLine.Show name → ShownAs s name (foundAt v f (name .code) j) j js t out written r js′ t′ d → WholeRuns s line j v f js t out written r js′ t′ d
-  unfolding Wholly
-  whole-show name e h = rw e (record { is = h })
+  pub does-show : (name : NameAt) → line ≡ WholeLine.Show name → ShownAs s name (foundAt v f (name .code) j) j js t out written r js′ t′ d → LineDoes s line j v f js t out written r js′ t′ d
+  unfolding Does
+  does-show name e h = rw e (record { is = h })
 
-  pub whole-total : line ≡ WholeLine.Total → TestedLine (ascii "total") 0 5 (Metres (metres t)) out written r d → js′ ≡ js → t′ ≡ t → WholeRuns s line j v f js t out written r js′ t′ d
-  unfolding Wholly
-  whole-total e h ej et = rw e (record { is = (h, ej, et) })
+  pub does-total : line ≡ WholeLine.Total → (l : Length) → l ≡ metres t → TotalLine l out written r d → js′ ≡ js → t′ ≡ t → LineDoes s line j v f js t out written r js′ t′ d
+  unfolding Does
+  does-total e l el h ej et = rw e (record { is = (subst (λ l. TotalLine l out written r d) el h, ej, et) })
 
 -- at most one place more is kept
 shown-count : (s : List ℕ) (name : NameAt) (o : Option Value) (j : ℕ) (js : List ℕ) (t : Float) (out : List ℕ) (written : ℕ) (r : Evaluated) (js′ : List ℕ) (t′ : Float) (d : List ℕ) → Shown s name o j js t out written r js′ t′ d → length js ≡ 96 → (length js′ ≡ 96) × (getD js′ 0 0 ≤ getD js 0 0 + 1)
@@ -114,7 +108,7 @@ shown-count s name (some v) j js t out written r js′ t′ d h l = go (inLimit 
     go true (ej, et) = rw ej (keep-size js j ∙ l, omega (arith, keep-count js j (omega (arith, l))))
     go false (ej, et) = rw ej (l, omega arith)
 
-pub whole-count : (s : List ℕ) (line : WholeLine) (j : ℕ) (v : Value) (f : List Float) (js : List ℕ) (t : Float) (out : List ℕ) (written : ℕ) (r : Evaluated) (js′ : List ℕ) (t′ : Float) (d : List ℕ) → WholeRuns s line j v f js t out written r js′ t′ d → length js ≡ 96 → (length js′ ≡ 96) × (getD js′ 0 0 ≤ getD js 0 0 + 1)
-unfolding Wholly
-whole-count s (WholeLine.Show name) j v f js t out written r js′ t′ d h l = shown-count s name (foundAt v f (name .code) j) j js t out written r js′ t′ d (h .is .is) l
-whole-count s WholeLine.Total j v f js t out written r js′ t′ d h l = rw (h .is .1) (l, omega arith)
+pub does-count : (s : List ℕ) (line : WholeLine) (j : ℕ) (v : Value) (f : List Float) (js : List ℕ) (t : Float) (out : List ℕ) (written : ℕ) (r : Evaluated) (js′ : List ℕ) (t′ : Float) (d : List ℕ) → LineDoes s line j v f js t out written r js′ t′ d → length js ≡ 96 → (length js′ ≡ 96) × (getD js′ 0 0 ≤ getD js 0 0 + 1)
+unfolding Does
+does-count s (WholeLine.Show name) j v f js t out written r js′ t′ d h l = shown-count s name (foundAt v f (name .code) j) j js t out written r js′ t′ d (h .is .is) l
+does-count s WholeLine.Total j v f js t out written r js′ t′ d h l = rw (h .is .1) (l, omega arith)

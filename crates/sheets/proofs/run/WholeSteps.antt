@@ -10,7 +10,6 @@ use lib.Ieee.{Float}
 use Rattle.numbers.specs.Lengths.{metres}
 use Rattle.frames.specs.declared.Ellipsoid.{Ellipsoid}
 use Rattle.sheets.specs.declared.Value.{Value}
-use Rattle.sheets.specs.declared.Value.the-variants.{Metres}
 use Rattle.sheets.specs.declared.rows.value.Slot.{Slot}
 use Rattle.sheets.specs.declared.reader.lines.NameAt.{NameAt}
 use Rattle.sheets.specs.declared.reader.lines.WholeLine.{WholeLine}
@@ -18,18 +17,19 @@ use Rattle.sheets.specs.declared.Evaluated.{Evaluated}
 use Rattle.sheets.specs.Text.{Word, ascii}
 use Rattle.sheets.specs.Trees.{Line, show-line, total-line}
 use Rattle.sheets.specs.Names.{lookup}
+use Rattle.sheets.specs.Letters.{𝐥, held}
 use Rattle.sheets.specs.Limits.{inLimit}
-use Rattle.sheets.specs.Entries.{Entry, shown as entry, summed, entryName, entryValue, entryLine, entryLines, total}
+use Rattle.sheets.specs.Entries.{Entry, shown as entry, summed, entryName, entryValue, entryLine, entryLines, plus, total}
 use Rattle.sheets.specs.Machine.{Out, goes, after, then as thenᵒ, met, meet, State, write, step}
 use Rattle.sheets.specs.Answers.{laid}
 use Rattle.sheets.specs.code.reader.Codes.{letter, wordChar}
 use Rattle.sheets.specs.code.reader.Reader.{got, charsIf, chars, wordIf, readWord}
 use Rattle.sheets.specs.code.reader.Views.{WholeIn}
 use Rattle.sheets.specs.code.check.Newest as Search
-use Rattle.sheets.specs.code.run.Known.{wordFound, foundAt}
+use Rattle.sheets.specs.code.run.Known.{wordFound}
 use Rattle.sheets.specs.code.run.Keeping.{EntryKept, shows, EntriesKept}
 use Rattle.sheets.specs.code.run.Evaluating.{evaluated}
-use Rattle.sheets.specs.code.run.Wholes.{wordNamed, TestedLine, KeptIf, Shown, ShownAs, Wholly, WholeRuns}
+use Rattle.sheets.specs.code.run.Wholes.{wordNamed, TestedLine, KeptIf, Shown, TotalLine, Does, LineDoes}
 use Rattle.sheets.proofs.reader.Slices.{word-is}
 use Rattle.sheets.proofs.run.TextBound.{line-length, word-length, entries-last}
 use Rattle.sheets.proofs.run.LineText.{line-laid}
@@ -99,21 +99,21 @@ module _ {s : List ℕ} {e : Ellipsoid} {rs : List Float} {d : List ℕ} {h : St
       entry-comes (show-line w) (entry (h .line) w v) _ (ap (λ o. thenᵒ (meet o) (λ y. goes [] (write st (entry (h .line) w y)))) eo) refl s (name .from) (name .end) ew (sh .0) (omega arith) (λ inside.
       let (ej, et) = subst (λ b. KeptIf b v j (h .shown) (h .sum) shown sum) inside (sh .1) in (
         subst (λ js. EntriesKept (st .entries ++ (entry (h .line) w v ∷ [])) js (h .kinds) (h .floats) (h .n)) (sym ej) (entries-show (st .entries) (h .shown) (h .kinds) (h .floats) (h .n) (now .kept) (omega (arith, now .few, high)) (h .line) w v j (kept v refl)),
-        ap metres et ∙ total-show (st .entries) (h .sum) (now .sums) (h .line) w v,
+        et ∙ ap (λ t. plus t (held 𝐥 v)) (now .sums) ∙ sym (total-show (st .entries) (h .line) w v),
       ))
 
-  total-comes : TestedLine (ascii "total") 0 5 (Metres (metres (h .sum))) (h .out) (h .written) r out → shown ≡ h .shown → sum ≡ h .sum → Comes-to total-line
+  total-comes : TotalLine (metres (h .sum)) (h .out) (h .written) r out → shown ≡ h .shown → sum ≡ h .sum → Comes-to total-line
   unfolding step readWord wordIf chars charsIf letter wordChar
   total-comes tested ej et =
-      entry-comes total-line (summed (total (st .entries))) _ refl refl (ascii "total") 0 5 refl (subst (λ l. TestedLine (ascii "total") 0 5 (Metres l) (h .out) (h .written) r out) (now .sums) tested) (omega arith) (λ inside. (
+      entry-comes total-line (summed (total (st .entries))) _ refl refl (ascii "total") 0 5 refl (subst (λ l. TotalLine l (h .out) (h .written) r out) (now .sums) tested) (omega arith) (λ inside. (
         subst (λ js. EntriesKept (st .entries ++ (summed (total (st .entries)) ∷ [])) js (h .kinds) (h .floats) (h .n)) (sym ej) (entries-total (st .entries) (h .shown) (h .kinds) (h .floats) (h .n) (now .kept) (total (st .entries))),
-        ap metres et ∙ total-total (st .entries) (h .sum) (now .sums) (total (st .entries)),
+        ap metres et ∙ now .sums ∙ sym (total-total (st .entries) (total (st .entries))),
       ))
 
   -- by its form: the line l stands there, its word at the place j among the names
   pub whole-comes : (y : WholeLine) (l : Line) → WholeIn s y l → (j : ℕ) → Search.Placed (h .words) (h .newest) (wordNamed y) j → (x : Slot)
-      → WholeRuns s y j (getD (h .slots) j x .value) (h .floats) (h .shown) (h .sum) (h .out) (h .written) r shown sum out → Comes-to l
-  unfolding Wholly wordNamed
+      → LineDoes s y j (getD (h .slots) j x .value) (h .floats) (h .shown) (h .sum) (h .out) (h .written) r shown sum out → Comes-to l
+  unfolding Does wordNamed
   whole-comes (WholeLine.Show name) l (w, ew, ec, el) j hj x hr =
       let known = now .tabled .is w (word-is s (name .from) w (name .end) ew) ∙ ap (wordFound (h .slots) rs (h .n)) ec ∙ sym (listed-at (h .slots) rs (h .words) (h .kinds) (h .newest) (h .floats) (h .n) (now .listed) (name .code) j hj x) in
       subst Comes-to (sym el) (show-comes name w ew j _ known (λ v ev. found-kept (h .slots) rs (h .words) (h .kinds) (h .newest) (h .floats) (h .n) (now .listed) (now .kept .reading) (name .code) j hj x v ev) (hr .is .is))

@@ -1,4 +1,5 @@
 // The lines that are read whole: what each writes, and what is kept of it.
+// The sum of the lengths shown is lent by its metres: a `&mut` to a struct is not covered by the proof rules.
 use crate::Evaluated;
 use crate::Value;
 use crate::reader::lines::NameAt;
@@ -13,16 +14,13 @@ ghost use mathlib.Core.Path.{_≡_};
 ghost use mathlib.Core.Option.{some};
 ghost use Prim.Native.Nat.{_≤_};
 ghost use lib.ListN.{getD};
-ghost use Rattle.numbers.specs.Lengths.{metres};
-ghost use Rattle.sheets.specs.declared.Value.the-variants.{Metres};
-ghost use Rattle.sheets.specs.Text.{ascii};
 ghost use Rattle.sheets.specs.Letters.{𝐥, held};
 ghost use Rattle.sheets.specs.Entries.{plus};
 ghost use Rattle.sheets.specs.code.run.Keeping.{keep};
 ghost use Rattle.sheets.specs.code.run.Known.{foundAt};
-ghost use Rattle.sheets.specs.code.run.Wholes.{wordNamed, TestedLine, ShownAs, WholeRuns};
+ghost use Rattle.sheets.specs.code.run.Wholes.{wordNamed, TestedLine, ShownAs, TotalLine, LineDoes};
 
-// The code of the line's word, 0 where it names none.
+// The code of the line's word, 0 where it names none. The slot at the word's place is looked up by the caller, which holds the table: it cannot be lent.
 pub fn named(line: WholeLine) -> u64
     ensures { λ r. ⌜ r ≡ wordNamed line ⌝ }
 {
@@ -62,13 +60,13 @@ fn keep(shown: &mut [u8; 96], place: usize)
 }
 
 // A sum with a value behind it: a length is added, and no other value counts.
-fn plus(sum: f64, v: Value) -> f64
+fn plus(sum: Length, v: Value) -> Length
     ensures { λ r. ⌜ r ≡ plus sum (held 𝐥 v) ⌝ }
 {
     let Value::Metres(x) = v else {
         return sum;
     };
-    sum + x.0
+    sum.add(x)
 }
 
 // A show of a value, which stands at a place among the names: its place is kept, and a length goes into the sum.
@@ -90,7 +88,7 @@ fn show_value(
         return r;
     };
     keep(shown, place);
-    *sum = plus(*sum, v);
+    *sum = plus(Length::from_metres(*sum), v).as_metres();
     Evaluated::Is(kind, n)
 }
 
@@ -121,14 +119,14 @@ fn show(
 }
 
 // A total: the sum of the lengths shown, tested as an l.
-fn total(sum: f64, out: &mut [u8], written: usize) -> Evaluated
-    ensures { λ r. ⌜ TestedLine (ascii "total") 0 5 (Metres (metres sum)) (now (out .entry)) written r (now (out .exit)) ⌝ }
+fn total(sum: Length, out: &mut [u8], written: usize) -> Evaluated
+    ensures { λ r. ⌜ TotalLine sum (now (out .entry)) written r (now (out .exit)) ⌝ }
 {
-    let v = Value::Metres(Length::from_metres(sum));
+    let v = Value::Metres(sum);
     tested_line(b"total", 0, 5, v, out, written)
 }
 
-// A line, where its word stands at the place j and x is the slot there.
+// A line, where its word stands at the place j and x is the slot there; where it names none both are left aside.
 pub fn whole_line(
     s: &[u8],
     line: WholeLine,
@@ -141,10 +139,10 @@ pub fn whole_line(
     written: usize,
 ) -> Evaluated
     requires { ⌜ (getD (now shown) 0 0 ≤ 94) × (j ≤ 95) ⌝ }
-    ensures { λ r. ⌜ WholeRuns (now (s .entry)) line j (x .value) (now (floats .entry)) (now (shown .entry)) (now (sum .entry)) (now (out .entry)) written r (now (shown .exit)) (now (sum .exit)) (now (out .exit)) ⌝ }
+    ensures { λ r. ⌜ LineDoes (now (s .entry)) line j (x .value) (now (floats .entry)) (now (shown .entry)) (now (sum .entry)) (now (out .entry)) written r (now (shown .exit)) (now (sum .exit)) (now (out .exit)) ⌝ }
 {
     match line {
         WholeLine::Show(name) => show(s, name, j, x, floats, shown, sum, out, written),
-        WholeLine::Total => total(*sum, out, written),
+        WholeLine::Total => total(Length::from_metres(*sum), out, written),
     }
 }

@@ -1,4 +1,4 @@
--- What the run keeps of what was shown, by entry: its place among the names, 0 for a reading. The kind and the floats of a name then stand at its place; of a reading the kind alone is kept, that of a number.
+-- What the run keeps of what was shown, by show: its place among the names, 0 for a reading. The kind and the floats of a name then stand at its place; of a reading the kind alone is kept, that of a number.
 -- No part of what must be believed: they only tie the code to the machine.
 use Prim.Native.Nat.{ℕ, suc, _+_, _*_, _≤_}
 use mathlib.Core.Path.{_≡_}

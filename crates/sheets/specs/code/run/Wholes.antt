@@ -7,6 +7,7 @@ use mathlib.Core.List.{List}
 use mathlib.Core.Option.{Option, none, some}
 use lib.Ieee.{Float}
 use Rattle.numbers.specs.Lengths.{metres}
+use Rattle.numbers.specs.declared.Length.{Length}
 use Rattle.sheets.specs.declared.Value.{Value}
 use Rattle.sheets.specs.declared.Value.the-variants.{Metres}
 use Rattle.sheets.specs.declared.reader.lines.NameAt.{NameAt}
@@ -34,9 +35,9 @@ TestedIf false s from end v out written r out′ = (r ≡ Evaluated.Stops 7) × 
 pub record TestedLine (s : List ℕ) (from end : ℕ) (v : Value) (out : List ℕ) (written : ℕ) (r : Evaluated) (out′ : List ℕ) : Type 0 where
   pub is : TestedIf (inLimit v) s from end v out written r out′
 
--- the place j of a value that is shown is kept, and a length goes into the sum t
+-- the place j of a value that is shown is kept, and a length goes into the sum, which has t metres
 unfoldable pub KeptIf : Bool → Value → ℕ → List ℕ → Float → List ℕ → Float → Type 0
-KeptIf true v j js t js′ t′ = (js′ ≡ keep js j) × (t′ ≡ plus t (held 𝐥 v))
+KeptIf true v j js t js′ t′ = (js′ ≡ keep js j) × (metres t′ ≡ plus (metres t) (held 𝐥 v))
 KeptIf false v j js t js′ t′ = (js′ ≡ js) × (t′ ≡ t)
 
 -- a show of what was found at the place j
@@ -47,10 +48,14 @@ Shown s name none j js t out written r js′ t′ out′ = (r ≡ Evaluated.Stic
 pub record ShownAs (s : List ℕ) (name : NameAt) (x : Option Value) (j : ℕ) (js : List ℕ) (t : Float) (out : List ℕ) (written : ℕ) (r : Evaluated) (js′ : List ℕ) (t′ : Float) (out′ : List ℕ) : Type 0 where
   pub is : Shown s name x j js t out written r js′ t′ out′
 
--- a line whose word stands at the place j, where the slot holds v
-unfoldable pub Wholly : List ℕ → WholeLine → ℕ → Value → List Float → List ℕ → Float → List ℕ → ℕ → Evaluated → List ℕ → Float → List ℕ → Type 0
-Wholly s (WholeLine.Show name) j v f js t out written r js′ t′ out′ = ShownAs s name (foundAt v f (name .code) j) j js t out written r js′ t′ out′
-Wholly s WholeLine.Total j v f js t out written r js′ t′ out′ = TestedLine (ascii "total") 0 5 (Metres (metres t)) out written r out′ × (js′ ≡ js) × (t′ ≡ t)
+-- a total of this sum
+abbrev pub TotalLine : Length → List ℕ → ℕ → Evaluated → List ℕ → Type 0
+TotalLine t out written r out′ = TestedLine (ascii "total") 0 5 (Metres t) out written r out′
 
-pub record WholeRuns (s : List ℕ) (line : WholeLine) (j : ℕ) (v : Value) (f : List Float) (js : List ℕ) (t : Float) (out : List ℕ) (written : ℕ) (r : Evaluated) (js′ : List ℕ) (t′ : Float) (out′ : List ℕ) : Type 0 where
-  pub is : Wholly s line j v f js t out written r js′ t′ out′
+-- a line whose word stands at the place j, where the slot holds v
+unfoldable pub Does : List ℕ → WholeLine → ℕ → Value → List Float → List ℕ → Float → List ℕ → ℕ → Evaluated → List ℕ → Float → List ℕ → Type 0
+Does s (WholeLine.Show name) j v f js t out written r js′ t′ out′ = ShownAs s name (foundAt v f (name .code) j) j js t out written r js′ t′ out′
+Does s WholeLine.Total j v f js t out written r js′ t′ out′ = TotalLine (metres t) out written r out′ × (js′ ≡ js) × (t′ ≡ t)
+
+pub record LineDoes (s : List ℕ) (line : WholeLine) (j : ℕ) (v : Value) (f : List Float) (js : List ℕ) (t : Float) (out : List ℕ) (written : ℕ) (r : Evaluated) (js′ : List ℕ) (t′ : Float) (out′ : List ℕ) : Type 0 where
+  pub is : Does s line j v f js t out written r js′ t′ out′

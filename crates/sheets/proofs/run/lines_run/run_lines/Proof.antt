@@ -8,7 +8,7 @@ use lib.ListN.{length, getD, length-set, length-replicate}
 use Rattle.sheets.specs.declared.answers.RunAnswer.{RunAnswer}
 use Rattle.sheets.specs.code.run.Running.{Runs}
 use Rattle.sheets.proofs.reader.LineSteps.{head-says}
-use Rattle.sheets.proofs.run.WholeParts.{whole-count}
+use Rattle.sheets.proofs.run.WholeParts.{does-count}
 use Rattle.sheets.proofs.run.RunSteps.{RunsFrom, runs-start, runs-end, runs-over, runs-bad, runs-let-not, runs-let, runs-whole-not, runs-whole}
 use borrow.Author.Needs.{needs}
 use borrow.Author.Tests.{ltb-true, ltb-false}
@@ -124,7 +124,7 @@ loop-less-2 c = omega (arith, c .before .before .before .before .before .before 
 loop-again-2 : tie.Need-loop-again-2 Inv-loop μ-loop
 loop-again-2 c =
     let before = c .before .before .before .before .before .before .before .before .before .before .before .before .before .before .before .before .before .before .before .before .before .loop .inv in
-    let count = whole-count _ _ _ _ _ _ _ _ _ _ _ _ _ (c .before .before .before .before .before .whole-line .ensures) (before .4) in (
+    let count = does-count _ _ _ _ _ _ _ _ _ _ _ _ _ (c .before .before .before .before .before .whole-line .ensures) (before .4) in (
       before .0,
       omega (arith, before .1),
       omega (arith, c .before .before .before .before .before .before .before .before .before .before .before .before .before .before .before .before .before .before .before .before .loop-test .taken),

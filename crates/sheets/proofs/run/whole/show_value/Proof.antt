@@ -19,14 +19,20 @@ returns c = show-out _ _ _ _ _ _ _ _ _ _ (c .before .before .before .tested-line
 keep-requires : tie.Need-keep-requires
 keep-requires c κs = search needs
 
+from-metres-requires : tie.Need-from-metres-requires
+from-metres-requires c κs = search needs
+
 plus-requires : tie.Need-plus-requires
 plus-requires c κs = search needs
+
+as-metres-requires : tie.Need-as-metres-requires
+as-metres-requires c κs = search needs
 
 same-length-2 : tie.Need-same-length-2
 same-length-2 c = search needs
 
 returns-2 : tie.Need-returns-2
-returns-2 c = show-in _ _ _ _ _ _ _ _ _ _ (c .before .before .before .before .before .before .before .before .tested-line .ensures) _ _ (c .before .before .before .before .r .given .1) _ (c .before .keep .ensures) _ (c .plus .ensures)
+returns-2 c = show-in _ _ _ _ _ _ _ _ _ _ (c .before .before .before .before .before .before .before .before .before .before .tested-line .ensures) _ _ (c .before .before .before .before .before .before .r .given .1) _ (c .before .before .before .keep .ensures) _ (c .before .before .from-metres .ensures) _ (c .before .plus .ensures) _ (c .as-metres .ensures)
 
 pub show-value-spec : {M : Type 1} → statement M
 show-value-spec =
@@ -37,6 +43,8 @@ show-value-spec =
     same-length
     returns
     keep-requires
+    from-metres-requires
     plus-requires
+    as-metres-requires
     same-length-2
     returns-2)

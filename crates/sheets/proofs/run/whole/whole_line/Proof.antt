@@ -1,6 +1,6 @@
 -- `sheets::run::whole::whole_line` meets its contract. Assumes nothing.
 use mathlib.Core.Path.{refl}
-use Rattle.sheets.proofs.run.WholeParts.{whole-show, whole-total}
+use Rattle.sheets.proofs.run.WholeParts.{does-show, does-total}
 use borrow.Author.Needs.{needs}
 use Rattle.sheets.proofs.run.whole.whole_line.Statement.{statement}
 use Rattle.sheets.proofs.run.whole.whole_line.Tie as tie
@@ -14,6 +14,9 @@ show-requires c κs = search needs
 enum-told : tie.Need-enum-told
 enum-told c = search needs
 
+from-metres-requires : tie.Need-from-metres-requires
+from-metres-requires c κs = search needs
+
 total-requires : tie.Need-total-requires
 total-requires c κs = search needs
 
@@ -21,13 +24,13 @@ same-length : tie.Need-same-length
 same-length c = search needs
 
 returns : tie.Need-returns
-returns c = whole-show _ _ _ _ _ _ _ _ _ _ _ _ _ _ (c .before .before .before .before .before .before .before .line .given .1) (c .before .before .show .ensures)
+returns c = does-show _ _ _ _ _ _ _ _ _ _ _ _ _ _ (c .before .before .before .before .before .before .before .line .given .1) (c .before .before .show .ensures)
 
 same-length-2 : tie.Need-same-length-2
 same-length-2 c = search needs
 
 returns-2 : tie.Need-returns-2
-returns-2 c = whole-total _ _ _ _ _ _ _ _ _ _ _ _ _ (c .before .before .before .before .enum-told .given .1) (c .before .before .total .ensures) refl refl
+returns-2 c = does-total _ _ _ _ _ _ _ _ _ _ _ _ _ (c .before .before .before .before .before .enum-told .given .1) _ (c .before .before .before .before .from-metres .ensures) (c .before .before .total .ensures) refl refl
 
 pub whole-line-spec : {M : Type 1} → statement M
 whole-line-spec =
@@ -36,6 +39,7 @@ whole-line-spec =
     enum-known-line
     show-requires
     enum-told
+    from-metres-requires
     total-requires
     same-length
     returns
