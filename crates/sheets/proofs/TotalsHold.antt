@@ -10,13 +10,12 @@ use Rattle.numbers.proofs.FitLaws.{Fits}
 use Rattle.numbers.specs.Ops.{num}
 use Rattle.numbers.specs.Lengths.{metres}
 use Rattle.numbers.specs.declared.Length.{Length}
-use Rattle.frames.specs.declared.LocalFrame.{LocalFrame}
 use Rattle.sheets.specs.declared.Value.the-variants.{Metres}
 use Rattle.sheets.specs.Trees.{Line, Sheet, numbered}
 use Rattle.sheets.specs.Grammar.{IsWord, AreLines, IsSheet, after as afterPhase, Written, formed}
 use Rattle.sheets.specs.Letters.{𝐥, held}
 use Rattle.sheets.specs.Entries.{Entry, shown, summed, entryName, entryValue, entryLines, plus, total}
-use Rattle.sheets.specs.Machine.{Out, goes, stops, sticks, State, step, Ran, done, stopped, stuck, afterwards, onward, steps, start, machine}
+use Rattle.sheets.specs.Machine.{Out, goes, stops, sticks, State, step, Ran, done, stopped, stuck, onward, steps, start, machine}
 use Rattle.sheets.specs.Answers.{Verdict, admitted, refused, verdict, RunAnswer, Tells, RunOf, lentRun, RunOwes}
 use Rattle.sheets.specs.Claim.{All}
 use Rattle.sheets.specs.Writes.{Writes, a-show, a-total, nothing, writes}

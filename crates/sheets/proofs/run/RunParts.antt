@@ -3,7 +3,6 @@ use Prim.Native.Nat.{ℕ, _+_, _<_, _≤_}
 use native.Mathlib.Omega.{arith}
 use mathlib.Core.Path.{_≡_, refl, sym, ap, subst, _∙_}
 use mathlib.Core.Bool.{Bool, true, false}
-use mathlib.Core.Option.{Option, none, some}
 use mathlib.Core.List.{List, [], _∷_}
 use lib.Dec.{eqb, leb}
 use lib.ListN.{length, getD, set, replicate, length-set, length-replicate, getD-replicate, List·getD-eq-default}
@@ -11,30 +10,23 @@ use lib.Seq.{getD-set-same, getD-set-other}
 use lib.Ieee.{Float, nan}
 use types.Run.{OneOf, miss}
 use denote.Enum.Declared.{tagOf}
-use borrow.Author.Tests.{eqb-true, eqb-false, leb-true, leb-false, eq-eqb, ne-eqb, le-leb, lt-leb}
+use borrow.Author.Tests.{eqb-true, eqb-false, leb-true, leb-false}
 use Rattle.numbers.specs.Ops.{num}
 use Rattle.frames.specs.declared.Ellipsoid.{Ellipsoid}
 use Rattle.sheets.specs.declared.Value.{Value}
-use Rattle.sheets.specs.declared.Value.the-variants.{Number}
 use Rattle.sheets.specs.declared.reader.expr.Read.{Read}
-use Rattle.sheets.specs.declared.reader.lines.NameAt.{NameAt}
 use Rattle.sheets.specs.declared.answers.RunAnswer.{RunAnswer}
 use Rattle.sheets.specs.declared.Evaluated.{Evaluated}
 use Rattle.sheets.specs.Trees.{let-line}
 use Rattle.sheets.specs.Kinds.{kindOf, kindCode}
-use Rattle.sheets.specs.Limits.{inLimit}
-use Rattle.sheets.specs.Machine.{Out, goes, stops, sticks, test, meet, eval}
+use Rattle.sheets.specs.Machine.{Out, goes, stops, sticks, eval}
 use Rattle.sheets.specs.code.reader.Reader.{readExpr, closing, rest}
 use Rattle.sheets.specs.code.reader.Views.{closed}
 use Rattle.sheets.specs.code.run.Floats.{floatAt}
-use Rattle.sheets.specs.code.run.Known.{readingIndex, foundAt}
-use Rattle.sheets.specs.code.run.Writing.{Written, lineIf, room}
-use Rattle.sheets.specs.code.run.Keeping.{keep}
 use Rattle.sheets.specs.code.run.Evaluating.{evaluated, EvalsWith}
 use Rattle.sheets.specs.code.run.Running.{WithReadings, LetWith, stoppedAt}
 use Rattle.sheets.proofs.reader.Inverse.{then-read, closing-read}
 use Rattle.sheets.proofs.run.KnownLaws.{getD-inside}
-use Rattle.sheets.proofs.run.EntryLaws.{keep-size, keep-count}
 use Rattle.sheets.proofs.Evaluated as evaluation
 
 -- ---- the readings among the floats
