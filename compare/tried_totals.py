@@ -69,7 +69,7 @@ def other_kinds():
     for kind, made, values in (
         ("n", "7", (7.0,)),
         ("n", "r3", (6.0,)),
-        ("a", "(deg 0)", (0.0,)),
+        ("a", "(deg 90)", (1.5707963267948966,)),
         ("g", "(geo (m 1) (m 2) (m 3))", (1.0, 2.0, 3.0)),
         ("d", "(lla (deg 90) (deg 7) (m 2))", (0.0, 0.0, 1.0, 2.0)),
         ("venu", "(venu (m 1) (m 2) (m 3))", (1.0, 2.0, 3.0)),
@@ -119,6 +119,8 @@ def limit():
     yield totalled(["-100000000"], "a", -1e8)
     most, least = length("a", 1e8), length("b", 0.000001)
     yield stops(given("100000000", "0.000001") + ["(show a)", "(show b)", TOTAL], "l " * 5, 7, 6, most + least)
+    below = length("a", -1e8) + length("b", -0.000001)
+    yield stops(given("-100000000", "-0.000001") + ["(show a)", "(show b)", TOTAL], "l " * 5, 7, 6, below)
     # 2^-27 is half of the step to the next double and rounds away each time; both halves first are the whole step
     half = 2.0**-27
     assert added(1e8, half, half) == 1e8 < added(half, half, 1e8) == 1e8 + 2.0**-26
