@@ -12,13 +12,13 @@ use Rattle.sheets.specs.Trees.{Line, let-line, show-line, total-line}
 use Rattle.sheets.specs.Grammar.{IsWord}
 use Rattle.sheets.specs.code.reader.Codes.{wordChar, codeFrom, codeOf}
 use Rattle.sheets.specs.code.reader.Reader.{Got, none, got, _then_, readWord, readExpr, orElse, nothing, opening, spaced, closing, limit, more, first, one, Row, fromRows, readRows, Begun, let-word, whole, wholeRows, lineRows, readBegun, rest, readLine}
-use Rattle.sheets.specs.code.reader.Views.{place, coded, closed, shortEnd, nameAt, namedAt, headTold, headOpened, lineHead, WholeIn}
+use Rattle.sheets.specs.code.reader.Views.{place, coded, closed, shortEnd, nameAt, namedAt, headTold, bareHead, headOpened, lineHead, WholeIn}
 use Rattle.sheets.proofs.reader.ReaderLaws.{then-got, mapped, closing-mapped}
 use Rattle.sheets.proofs.reader.Spans.{Holds, holds-none, holds-then, holds-at, holds-or}
 use Rattle.sheets.proofs.reader.TokenLaws.{WordAt, word-sound, word-spans}
 use Rattle.sheets.proofs.reader.PieceLaws.{space-holds, closing-holds}
 use Rattle.sheets.proofs.reader.PieceSteps.{then-none, spaced-got, spaced-inside, closing-none, closing-got}
-use Rattle.sheets.proofs.reader.RowSteps.{more-none, more-got, first-mapped, one-mapped}
+use Rattle.sheets.proofs.reader.RowSteps.{NoneOf, rows-miss, more-none, more-got, first-mapped, one-mapped}
 use Rattle.sheets.proofs.reader.Viewed.{placed-none, placed-got, coded-none, coded-got, named-none, named-got}
 use Rattle.sheets.specs.declared.reader.bytes.WordRead.{WordRead}
 use Rattle.sheets.specs.declared.reader.expr.Read.{Read}
@@ -137,29 +137,31 @@ module _ (s : List ℕ) (k n : ℕ) where
   unfolding wholeRows fromRows orElse codeFrom wordChar headTold
   opens-show e = opens-by wholeRows (λ w. whole (show-line w)) _ (one readWord (λ w. w) s n) (rw e (one-mapped readWord (λ w. whole (show-line w)) s n)) (λ w m. refl)
 
-  pub opens-total : k ≡ codeOf (ascii "total") → Opens wholeRows (λ u m. LineHead.Whole WholeLine.Total m) (closing {A = Unit {0}} tt s n)
+  -- a line without parts
+  opens-bare : (l : Line) (y : WholeLine) → ((m : ℕ) → headTold n (got (whole l) m) ≡ LineHead.Whole y m) → fromRows wholeRows k s n ≡ closing (whole l) s n → bareHead y (closed s n) ≡ headTold n (fromRows wholeRows k s n)
+  unfolding mapped headTold place bareHead
+  opens-bare l y t e = go (closing tt s n) ∙ sym (ap (headTold n) (e ∙ closing-mapped (whole l) s n))
+    where
+      go : (c : Got (Unit {0})) → bareHead y (place c) ≡ headTold n (mapped (λ u. whole l) c)
+      go none = refl
+      go (got u m) = sym (t m)
+
+  pub opens-total : k ≡ codeOf (ascii "total") → bareHead WholeLine.Total (closed s n) ≡ headTold n (fromRows wholeRows k s n)
   unfolding wholeRows fromRows orElse codeFrom wordChar headTold
-  opens-total e = opens-by wholeRows (λ u. whole total-line) _ (closing {A = Unit {0}} tt s n) (rw e (closing-mapped (whole total-line) s n)) (λ u m. refl)
+  opens-total e = opens-bare total-line WholeLine.Total (λ m. refl) (rw e refl)
 
-  pub opens-none : (k ≡ codeOf (ascii "show") → ⊥) → (k ≡ codeOf (ascii "total") → ⊥) → LineHead.Bad ≡ headTold n (fromRows wholeRows k s n)
-  unfolding wholeRows fromRows orElse headTold
-  opens-none f g = rw (ne-eqb k (codeOf (ascii "show")) f, ne-eqb k (codeOf (ascii "total")) g) refl
+  -- a word that no row has
+  pub opens-none : NoneOf wholeRows k → LineHead.Bad ≡ headTold n (fromRows wholeRows k s n)
+  unfolding headTold
+  opens-none h = sym (ap (headTold n) (rows-miss wholeRows k s n h))
 
--- by what the code read of o: a word, or the line's end
-module _ (x : LineHead) (n : ℕ) where
-  module _ (f : NameAt → ℕ → LineHead) (o : Got Word) (t : x ≡ toldBy (λ w m. f (nameAt w (n + 1)) m) o) (v : NameRead) (ev : v ≡ namedAt (n + 1) o) where
-    pub unnamed : v ≡ NameRead.Not → LineHead.Bad ≡ x
-    unnamed i = sym (t ∙ ap (toldBy (λ w m. f (nameAt w (n + 1)) m)) (named-none (n + 1) o v ev i))
+-- by what the code read of a word
+module _ (x : LineHead) (n : ℕ) (f : NameAt → ℕ → LineHead) (o : Got Word) (t : x ≡ toldBy (λ w m. f (nameAt w (n + 1)) m) o) (v : NameRead) (ev : v ≡ namedAt (n + 1) o) where
+  pub unnamed : v ≡ NameRead.Not → LineHead.Bad ≡ x
+  unnamed i = sym (t ∙ ap (toldBy (λ w m. f (nameAt w (n + 1)) m)) (named-none (n + 1) o v ev i))
 
-    pub name-told : (y : NameAt) (m : ℕ) → v ≡ NameRead.Is y m → f y m ≡ x
-    name-told y m i = let (w, ew, ey) = named-got (n + 1) o v ev y m i in ap (λ z. f z m) ey ∙ sym (t ∙ ap (toldBy (λ w m. f (nameAt w (n + 1)) m)) ew)
-
-  module _ (f : ℕ → LineHead) (s : List ℕ) (t : x ≡ toldBy (λ u m. f m) (closing {A = Unit {0}} tt s n)) (c : Read) (ec : c ≡ closed s n) where
-    pub unclosed : c ≡ Read.Bad → LineHead.Bad ≡ x
-    unclosed i = sym (t ∙ ap (toldBy (λ u m. f m)) (placed-none (closing tt s n) c ec i))
-
-    pub close-told : (m : ℕ) → c ≡ Read.At m → f m ≡ x
-    close-told m i = let (u, eu) = placed-got (closing tt s n) c ec m i in sym (t ∙ ap (toldBy (λ u m. f m)) eu)
+  pub name-told : (y : NameAt) (m : ℕ) → v ≡ NameRead.Is y m → f y m ≡ x
+  name-told y m i = let (w, ew, ey) = named-got (n + 1) o v ev y m i in ap (λ z. f z m) ey ∙ sym (t ∙ ap (toldBy (λ w m. f (nameAt w (n + 1)) m)) ew)
 
 -- ---- the end of a line
 pub short-test : (at n : ℕ) → leb (n - 200) at ≡ leb n (at + 200)

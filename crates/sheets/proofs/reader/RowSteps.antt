@@ -2,9 +2,10 @@
 use Prim.Native.Nat.{ℕ, _+_}
 use mathlib.Core.Path.{_≡_, refl, sym, ap, _∙_}
 use mathlib.Core.Bool.{Bool, true, false}
-use mathlib.Core.List.{List}
+use mathlib.Core.List.{List, [], _∷_}
 use lib.Dec.{eqb}
 use lib.ListN.{getD}
+use borrow.Author.Tests.{ne-eqb}
 use Rattle.sheets.specs.Text.{Word}
 use Rattle.sheets.specs.code.reader.Codes.{codeOf}
 use Rattle.sheets.specs.code.reader.Reader.{Got, none, got, _then_, readWord, orElse, nothing, opening, spaced, closing, more, first, one, readThe, Row, fromRows, readRows}
@@ -23,6 +24,16 @@ module _ {A : Type 0} (rs : List (Row A)) (s : List ℕ) (at : ℕ) (r : WordRea
   pub rows-got : (k n : ℕ) → r ≡ WordRead.Is k n → readRows rs s at ≡ fromRows rs k s n
   unfolding readRows
   rows-got k n h = let (w, ew, ek) = coded-got (opening s at) r er k n h in then-got (opening s at) _ w n ew ∙ ap (λ c. fromRows rs c s n) (sym ek)
+
+-- no row has the word with this code
+abbrev pub NoneOf : {A : Type 0} → List (Row A) → ℕ → Type 0
+NoneOf [] k = Unit {0}
+NoneOf (r ∷ rs) k = (k ≡ codeOf (r .opener) → ⊥) × NoneOf rs k
+
+pub rows-miss : {A : Type 0} (rs : List (Row A)) (k : ℕ) (s : List ℕ) (at : ℕ) → NoneOf rs k → fromRows rs k s at ≡ none
+unfolding fromRows orElse
+rows-miss [] k s at h = refl
+rows-miss (r ∷ rs) k s at h = rw (ne-eqb k (codeOf (r .opener)) (h .0)) (rows-miss rs k s at (h .1))
 
 module _ {A B : Type 0} (f : List ℕ → ℕ → Got B) (k : B → List ℕ → ℕ → Got A) (s : List ℕ) (at : ℕ) where
   -- no space, or no such part

@@ -57,7 +57,11 @@ kept-total i [] js kinds f n t h = tt
 kept-total i (shown l w x ∷ es) js kinds f n t h = (h .0, kept-total (suc i) es js kinds f n t (h .1))
 kept-total i (summed u ∷ es) js kinds f n t h = kept-total i es js kinds f n t h
 
--- how many shows there are, with one entry more
+pub one-show : (e : Entry) → shows (e ∷ []) ≤ 1
+one-show (shown l w x) = omega arith
+one-show (summed t) = omega arith
+
+-- how many shows there are, with more entries
 pub shows-append : (es ds : List Entry) → shows (es ++ ds) ≡ shows es + shows ds
 shows-append [] ds = omega arith
 shows-append (shown l w x ∷ es) ds = omega (arith, shows-append es ds)

@@ -34,7 +34,7 @@ use Rattle.sheets.specs.code.run.Known.{Tabled, Ready}
 use Rattle.sheets.specs.code.run.Keeping.{shows, EntriesKept}
 use Rattle.sheets.specs.code.run.Evaluating.{Answers}
 use Rattle.sheets.specs.code.run.Running.{WithReadings, LetWith, GivenAt, stoppedAt, Runs}
-use Rattle.sheets.specs.code.run.Wholes.{wordNamed, LineDoes}
+use Rattle.sheets.specs.code.run.Wholes.{Names, LineDoes}
 use Rattle.sheets.proofs.reader.LineSteps.{head-says}
 use Rattle.sheets.proofs.reader.Inverse.{limit-read}
 use Rattle.sheets.proofs.reader.Walks.{Step, walk-end, walk-line}
@@ -170,13 +170,13 @@ module _ {s : List ℕ} {e : Ellipsoid} {rs : List Float} {d : List ℕ} {h : St
     -- ---- a line that is read whole
 
     module _ (head : LineHead) (eh : head ≡ lineHead s (h .at)) (y : WholeLine) (next : ℕ) (is : head ≡ LineHead.Whole y next) (high : h .line ≤ 96)
-        (c : ℕ) (ec : c ≡ wordNamed y) (j : ℕ) (hj : Search.Placed (h .words) (h .newest) c j) (x : Slot) (r : Evaluated) (shown : List ℕ) (sum : Float) (out : List ℕ) (hr : LineDoes s y j (getD (h .slots) j x .value) (h .floats) (h .shown) (h .sum) (h .out) (h .written) r shown sum out) where
+        (c : ℕ) (hc : Names y c) (j : ℕ) (hj : Search.Placed (h .words) (h .newest) c j) (x : Slot) (r : Evaluated) (shown : List ℕ) (sum : Float) (out : List ℕ) (hr : LineDoes s y j (getD (h .slots) j x .value) (h .floats) (h .shown) (h .sum) (h .out) (h .written) r shown sum out) where
       whole-here : (ls : List Line) (st : State) → Now s e rs d h ls st → (l : Line) (m : ℕ) → readLine s (h .at) ≡ got l m → (next ≡ m) × Comes h d st l r shown sum out
       whole-here ls st now l m el =
           let (k, t, ek) = head-says s (h .at) head eh _ is in
           let same = limit-read (h .at) (got k next) l m (sym ek ∙ el) .0 in
           let kl : k ≡ l = cc in
-          (cc, subst (λ k. Comes h d st k r shown sum out) kl (whole-comes now high r shown sum out y k t j (subst (λ c. Search.Placed (h .words) (h .newest) c j) ec hj) x hr))
+          (cc, subst (λ k. Comes h d st k r shown sum out) kl (whole-comes now high r shown sum out y k t c hc j hj x hr))
 
       pub runs-whole-not : NotIs r → (a : RunAnswer) → a ≡ stoppedAt r (h .line) (h .written) → RunsFrom s e rs d h a out
       runs-whole-not m a ea = by-line a out (λ ls st now sp un.

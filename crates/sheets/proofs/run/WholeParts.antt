@@ -1,4 +1,4 @@
--- A line that is read whole: a law for each way out of `tested_line`, `plus`, `show_value`, `show` and `whole_line`. Assumes nothing.
+-- A line that is read whole: a law for each way out of `named`, `tested_line`, `plus`, `show_value`, `show` and `whole_line`. Assumes nothing.
 use Prim.Native.Nat.{ℕ, _+_, _<_, _≤_}
 use native.Mathlib.Omega.{arith}
 use mathlib.Core.Path.{_≡_, refl, ap, subst, _∙_}
@@ -25,9 +25,17 @@ use Rattle.sheets.specs.code.run.Known.{readingIndex, foundAt}
 use Rattle.sheets.specs.code.run.Writing.{Written, lineIf, room}
 use Rattle.sheets.specs.code.run.Keeping.{keep}
 use Rattle.sheets.specs.code.run.Evaluating.{evaluated}
-use Rattle.sheets.specs.code.run.Wholes.{TestedIf, TestedLine, KeptIf, Shown, ShownAs, TotalLine, Does, LineDoes}
+use Rattle.sheets.specs.code.run.Wholes.{Names, TestedIf, TestedLine, KeptIf, Shown, ShownAs, TotalLine, Does, LineDoes}
 use Rattle.sheets.proofs.run.EntryLaws.{keep-size, keep-count}
 use Rattle.sheets.proofs.run.RunParts.{NotIs, not-is}
+
+-- ---- the word of a show
+
+pub names-show : (line : WholeLine) (name : NameAt) → line ≡ WholeLine.Show name → Names line (name .code)
+names-show line name e = record { is = λ other o. let i : name ≡ other = cc in ap (λ (z : NameAt). z .code) i }
+
+pub names-other : (line : WholeLine) (c : ℕ) → line ≡ WholeLine.Total → Names line c
+names-other line c e = record { is = λ name o. let z : _≡_ {A = ℕ} 0 1 = cc in absurd (omega arith) }
 
 -- ---- a tested line
 

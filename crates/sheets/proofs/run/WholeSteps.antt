@@ -29,12 +29,12 @@ use Rattle.sheets.specs.code.check.Newest as Search
 use Rattle.sheets.specs.code.run.Known.{wordFound}
 use Rattle.sheets.specs.code.run.Keeping.{EntryKept, shows, EntriesKept}
 use Rattle.sheets.specs.code.run.Evaluating.{evaluated}
-use Rattle.sheets.specs.code.run.Wholes.{wordNamed, TestedLine, KeptIf, Shown, TotalLine, Does, LineDoes}
+use Rattle.sheets.specs.code.run.Wholes.{Names, TestedLine, KeptIf, Shown, TotalLine, Does, LineDoes}
 use Rattle.sheets.proofs.reader.Slices.{word-is}
 use Rattle.sheets.proofs.run.TextBound.{line-length, word-length, entries-last}
 use Rattle.sheets.proofs.run.LineText.{line-laid}
 use Rattle.sheets.proofs.run.ListedLaws.{listed-at, found-kept}
-use Rattle.sheets.proofs.run.EntryLaws.{shows-append, entries-show, entries-total, total-show, total-total}
+use Rattle.sheets.proofs.run.EntryLaws.{one-show, shows-append, entries-show, entries-total, total-show, total-total}
 use Rattle.sheets.proofs.run.RunParts.{NotIs}
 use Rattle.sheets.proofs.run.WholeParts.{tested-not, tested-is}
 use Rattle.sheets.proofs.run.Stages.{Stage, Now}
@@ -63,9 +63,8 @@ module _ {s : List ℕ} {e : Ellipsoid} {rs : List Float} {d : List ℕ} {h : St
   -- a line that writes an entry, whose name stands in t, and tests its value
   entry-comes : (l : Line) (a : Entry) (k : Value → Out State) → step (h .line) st l ≡ thenᵒ (met (entryValue a)) k → k (entryValue a) ≡ goes [] (write st a)
       → (t : List ℕ) (from end : ℕ) → readWord t from ≡ got (entryName a) end → TestedLine t from end (entryValue a) (h .out) (h .written) r out
-      → shows (a ∷ []) ≤ 1
       → (inLimit (entryValue a) ≡ true → EntriesKept (st .entries ++ (a ∷ [])) shown (h .kinds) (h .floats) (h .n) × (metres sum ≡ total (st .entries ++ (a ∷ [])))) → Comes-to l
-  entry-comes l a k es ek t from end ew tested one kept = record {
+  entry-comes l a k es ek t from end ew tested kept = record {
     stays = λ n. let (er, eo, out-of) = tested-not t from end (entryValue a) (h .out) (h .written) r out tested n in (met (entryValue a), k, es, er, eo);
     goes-on = λ kind count er.
         let (em, inside, hw) = tested-is t from end (entryValue a) (h .out) (h .written) r out tested kind count er in
@@ -80,7 +79,7 @@ module _ {s : List ℕ} {e : Ellipsoid} {rs : List Float} {d : List ℕ} {h : St
             known = refl;
             kept = kept inside .0;
             sums = kept inside .1;
-            few = omega (arith, shows-append (st .entries) (a ∷ []), one);
+            few = omega (arith, shows-append (st .entries) (a ∷ []), one-show a);
             counted = ec ∙ ap length (sym grows);
             bound = omega (arith, ec, length-append text (entryLine a), len, now .count);
             text = eo ∙ ap (λ (z : List ℕ). laid z d) (sym grows);
@@ -96,7 +95,7 @@ module _ {s : List ℕ} {e : Ellipsoid} {rs : List Float} {d : List ℕ} {h : St
     goes-on = λ kind count er. let e = sh .0 in let z : _≡_ {A = ℕ} 0 1 = cc in absurd (omega arith);
   }
   show-comes name w ew j (some v) eo kept sh =
-      entry-comes (show-line w) (entry (h .line) w v) _ (ap (λ o. thenᵒ (meet o) (λ y. goes [] (write st (entry (h .line) w y)))) eo) refl s (name .from) (name .end) ew (sh .0) (omega arith) (λ inside.
+      entry-comes (show-line w) (entry (h .line) w v) _ (ap (λ o. thenᵒ (meet o) (λ y. goes [] (write st (entry (h .line) w y)))) eo) refl s (name .from) (name .end) ew (sh .0) (λ inside.
       let (ej, et) = subst (λ b. KeptIf b v j (h .shown) (h .sum) shown sum) inside (sh .1) in (
         subst (λ js. EntriesKept (st .entries ++ (entry (h .line) w v ∷ [])) js (h .kinds) (h .floats) (h .n)) (sym ej) (entries-show (st .entries) (h .shown) (h .kinds) (h .floats) (h .n) (now .kept) (omega (arith, now .few, high)) (h .line) w v j (kept v refl)),
         et ∙ ap (λ t. plus t (held 𝐥 v)) (now .sums) ∙ sym (total-show (st .entries) (h .line) w v),
@@ -105,16 +104,17 @@ module _ {s : List ℕ} {e : Ellipsoid} {rs : List Float} {d : List ℕ} {h : St
   total-comes : TotalLine (metres (h .sum)) (h .out) (h .written) r out → shown ≡ h .shown → sum ≡ h .sum → Comes-to total-line
   unfolding step readWord wordIf chars charsIf letter wordChar
   total-comes tested ej et =
-      entry-comes total-line (summed (total (st .entries))) _ refl refl (ascii "total") 0 5 refl (subst (λ l. TotalLine l (h .out) (h .written) r out) (now .sums) tested) (omega arith) (λ inside. (
+      entry-comes total-line (summed (total (st .entries))) _ refl refl (ascii "total") 0 5 refl (subst (λ l. TotalLine l (h .out) (h .written) r out) (now .sums) tested) (λ inside. (
         subst (λ js. EntriesKept (st .entries ++ (summed (total (st .entries)) ∷ [])) js (h .kinds) (h .floats) (h .n)) (sym ej) (entries-total (st .entries) (h .shown) (h .kinds) (h .floats) (h .n) (now .kept) (total (st .entries))),
         ap metres et ∙ now .sums ∙ sym (total-total (st .entries) (total (st .entries))),
       ))
 
   -- by its form: the line l stands there, its word at the place j among the names
-  pub whole-comes : (y : WholeLine) (l : Line) → WholeIn s y l → (j : ℕ) → Search.Placed (h .words) (h .newest) (wordNamed y) j → (x : Slot)
+  pub whole-comes : (y : WholeLine) (l : Line) → WholeIn s y l → (c : ℕ) → Names y c → (j : ℕ) → Search.Placed (h .words) (h .newest) c j → (x : Slot)
       → LineDoes s y j (getD (h .slots) j x .value) (h .floats) (h .shown) (h .sum) (h .out) (h .written) r shown sum out → Comes-to l
-  unfolding Does wordNamed
-  whole-comes (WholeLine.Show name) l (w, ew, ec, el) j hj x hr =
+  unfolding Does
+  whole-comes (WholeLine.Show name) l (w, ew, ec, el) c hc j pj x hr =
+      let hj = subst (λ k. Search.Placed (h .words) (h .newest) k j) (hc .is name refl) pj in
       let known = now .tabled .is w (word-is s (name .from) w (name .end) ew) ∙ ap (wordFound (h .slots) rs (h .n)) ec ∙ sym (listed-at (h .slots) rs (h .words) (h .kinds) (h .newest) (h .floats) (h .n) (now .listed) (name .code) j hj x) in
       subst Comes-to (sym el) (show-comes name w ew j _ known (λ v ev. found-kept (h .slots) rs (h .words) (h .kinds) (h .newest) (h .floats) (h .n) (now .listed) (now .kept .reading) (name .code) j hj x v ev) (hr .is .is))
-  whole-comes WholeLine.Total l el j hj x hr = subst Comes-to (sym el) (total-comes (hr .is .0) (hr .is .1) (hr .is .2))
+  whole-comes WholeLine.Total l el c hc j pj x hr = subst Comes-to (sym el) (total-comes (hr .is .0) (hr .is .1) (hr .is .2))

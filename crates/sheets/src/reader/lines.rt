@@ -10,7 +10,7 @@ ghost use mathlib.Core.Path.{_≡_};
 ghost use Prim.Native.Nat.{_+_};
 ghost use lib.Dec.{leb};
 ghost use Rattle.sheets.specs.code.reader.Reader.{readWord, opening, spaced, first, one, fromRows, wholeRows, readLine};
-ghost use Rattle.sheets.specs.code.reader.Views.{place, closed, shortEnd, coded, namedAt, headTold, lineHead};
+ghost use Rattle.sheets.specs.code.reader.Views.{place, closed, shortEnd, coded, namedAt, headTold, bareHead, lineHead};
 
 // A line's word: its code, and where it stands, from its first byte to the place after it.
 pub struct NameAt {
@@ -127,6 +127,17 @@ fn first_word(s: &[u8], at: usize) -> NameRead
     NameRead::Not
 }
 
+// A line without parts, from the place after the word that opens it.
+fn bare(s: &[u8], at: usize, line: WholeLine) -> LineHead
+    ensures { λ r. ⌜ r ≡ bareHead line (closed (now (s .entry)) at) ⌝ }
+{
+    let c = closing(s, at);
+    match c {
+        Read::At(next) => LineHead::Whole(line, next),
+        Read::Bad => LineHead::Bad,
+    }
+}
+
 // A line that is read whole, by the code of the word that opens it, and from the place after that word.
 fn whole_head(s: &[u8], code: u64, at: usize) -> LineHead
     ensures { λ r. ⌜ r ≡ headTold at (fromRows wholeRows code (now (s .entry)) at) ⌝ }
@@ -139,13 +150,7 @@ fn whole_head(s: &[u8], code: u64, at: usize) -> LineHead
                 NameRead::Not => LineHead::Bad,
             }
         }
-        words::TOTAL => {
-            let r = closing(s, at);
-            match r {
-                Read::At(next) => LineHead::Whole(WholeLine::Total, next),
-                Read::Bad => LineHead::Bad,
-            }
-        }
+        words::TOTAL => bare(s, at, WholeLine::Total),
         _ => LineHead::Bad,
     }
 }

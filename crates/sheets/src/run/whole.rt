@@ -18,16 +18,16 @@ ghost use Rattle.sheets.specs.Letters.{𝐥, held};
 ghost use Rattle.sheets.specs.Entries.{plus};
 ghost use Rattle.sheets.specs.code.run.Keeping.{keep};
 ghost use Rattle.sheets.specs.code.run.Known.{foundAt};
-ghost use Rattle.sheets.specs.code.run.Wholes.{wordNamed, TestedLine, ShownAs, TotalLine, LineDoes};
+ghost use Rattle.sheets.specs.code.run.Wholes.{Names, TestedLine, ShownAs, TotalLine, LineDoes};
 
-// The code of the line's word, 0 where it names none. The slot at the word's place is looked up by the caller, which holds the table: it cannot be lent.
+// The code of a show's word; of another line it does not matter. The slot at the word's place is looked up by the caller, which holds the table: it cannot be lent.
 pub fn named(line: WholeLine) -> u64
-    ensures { λ r. ⌜ r ≡ wordNamed line ⌝ }
+    ensures { λ r. ⌜ Names line r ⌝ }
 {
-    match line {
-        WholeLine::Show(name) => name.code,
-        WholeLine::Total => 0,
-    }
+    let WholeLine::Show(name) = line else {
+        return 0;
+    };
+    name.code
 }
 
 // A value is tested, and its line written under the name that stands in `s` from `from` to `end`: the kind's code, and the bytes then written. Where refusal 7 meets it, nothing is written.

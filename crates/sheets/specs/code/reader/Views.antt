@@ -103,6 +103,11 @@ headTold n (got (whole (show-line w)) m) = LineHead.Whole (WholeLine.Show (nameA
 headTold n (got (whole total-line) m) = LineHead.Whole WholeLine.Total m
 headTold n (got (whole (let-line w x)) m) = LineHead.Bad
 
+-- a line without parts, by what was read of its end
+unfoldable pub bareHead : WholeLine → Read → LineHead
+bareHead y Read.Bad = LineHead.Bad
+bareHead y (Read.At n) = LineHead.Whole y n
+
 unfoldable pub headOpened : List ℕ → Got Word → LineHead
 headOpened s none = LineHead.Bad
 headOpened s (got k n) = headTold n (fromRows lineRows (codeOf k) s n)

@@ -22,10 +22,9 @@ use Rattle.sheets.specs.code.run.Keeping.{keep}
 use Rattle.sheets.specs.code.run.Known.{foundAt}
 use Rattle.sheets.specs.code.run.Writing.{Written, lineIf, room}
 
--- the code of the line's word, 0 where it names none
-unfoldable pub wordNamed : WholeLine → ℕ
-wordNamed (WholeLine.Show name) = name .code
-wordNamed WholeLine.Total = 0
+-- c is the code of a show's word
+pub record Names (line : WholeLine) (c : ℕ) : Type 0 where
+  pub is : (name : NameAt) → line ≡ WholeLine.Show name → c ≡ name .code
 
 -- the line of a value under the name that stands in s from `from` to `end`, and the bytes then written; or refusal 7
 unfoldable pub TestedIf : Bool → List ℕ → ℕ → ℕ → Value → List ℕ → ℕ → Evaluated → List ℕ → Type 0

@@ -1,8 +1,10 @@
 -- `sheets::reader::lines::whole_head` meets its contract. Assumes nothing.
+use mathlib.Core.Path.{_∙_}
 use Rattle.sheets.specs.declared.reader.lines.WholeLine.{WholeLine}
 use Rattle.sheets.specs.declared.reader.lines.LineHead.{LineHead}
-use Rattle.sheets.proofs.reader.LineSteps.{opens-show, opens-total, opens-none, unnamed, name-told, unclosed, close-told}
+use Rattle.sheets.proofs.reader.LineSteps.{opens-show, opens-total, opens-none, unnamed, name-told}
 use Rattle.sheets.specs.code.reader.Codes.{wordChar, codeFrom}
+use Rattle.sheets.specs.code.reader.Reader.{wholeRows}
 use borrow.Author.Needs.{needs}
 use Rattle.sheets.proofs.reader.lines.whole_head.Statement.{statement}
 use Rattle.sheets.proofs.reader.lines.whole_head.Tie as tie
@@ -16,14 +18,8 @@ enum-known-r c = search needs
 enum-told : tie.Need-enum-told
 enum-told c = search needs
 
-closing-requires : tie.Need-closing-requires
-closing-requires c κs = search needs
-
-enum-known-r-2 : tie.Need-enum-known-r-2
-enum-known-r-2 c = search needs
-
-enum-told-2 : tie.Need-enum-told-2
-enum-told-2 c = search needs
+bare-requires : tie.Need-bare-requires
+bare-requires c κs = search needs
 
 returns : tie.Need-returns
 unfolding wordChar codeFrom
@@ -35,15 +31,11 @@ returns-2 c = unnamed _ _ (λ y m. LineHead.Whole (WholeLine.Show y) m) _ (opens
 
 returns-3 : tie.Need-returns-3
 unfolding wordChar codeFrom
-returns-3 c = close-told _ _ _ _ (opens-total _ _ _ (c .before .before .before .before .match .keys2)) _ (c .before .before .before .closing .ensures) _ (c .before .r2 .given .1)
+returns-3 c = c .bare .ensures ∙ opens-total _ _ _ (c .before .match .keys2)
 
 returns-4 : tie.Need-returns-4
-unfolding wordChar codeFrom
-returns-4 c = unclosed _ _ _ _ (opens-total _ _ _ (c .before .before .before .match .keys2)) _ (c .before .before .closing .ensures) (c .enum-told2 .given .1)
-
-returns-5 : tie.Need-returns-5
-unfolding wordChar codeFrom
-returns-5 c = opens-none _ _ _ (c .match .rest .0 .1) (c .match .rest .1)
+unfolding wordChar codeFrom wholeRows
+returns-4 c = opens-none _ _ _ (c .match .rest .0 .1, (c .match .rest .1, tt))
 
 pub whole-head-spec : {M : Type 1} → statement M
 whole-head-spec =
@@ -52,11 +44,8 @@ whole-head-spec =
     one-word-requires
     enum-known-r
     enum-told
-    closing-requires
-    enum-known-r-2
-    enum-told-2
+    bare-requires
     returns
     returns-2
     returns-3
-    returns-4
-    returns-5)
+    returns-4)
