@@ -116,14 +116,18 @@ whole-show line name e next i c r h = rw e record {
   is = λ s l (w, ew, ec, el). subst (λ l. LineHas (got l next) i c r) (sym el) (h .is w (word-is s (name .from) w (name .end) ew) ec);
 }
 
+-- one that names no word and is always passed, with this kind code
+whole-plain : (line : WholeLine) (l : Line) (k : ℕ) → ((s : List ℕ) (m : Line) → WholeIn s line m → m ≡ l) → (next i : ℕ) (c : Scope Kind) → LineKind.Is 0 k next ≡ lineSaid (lineWord l) (lineᶜ i c l) next → WholeHas line next i c (LineKind.Is 0 k next)
+whole-plain line l k only next i c e = record {
+  is = λ s m hm. rw (only s m hm) record {
+    is = λ m n em. let en : next ≡ n = cc in let el : l ≡ m = cc in rw (← el, ← en) e;
+    read = λ w j n er. let en : next ≡ n = cc in (l, ap (got l) en);
+  };
+}
+
 pub whole-total : (line : WholeLine) → line ≡ WholeLine.Total → (next i : ℕ) (c : Scope Kind) → WholeHas line next i c (LineKind.Is 0 2 next)
 unfolding lineᶜ lineSaid codeFrom
-whole-total line e next i c = rw e record {
-  is = λ s l el. subst (λ l. LineHas (got l next) i c (LineKind.Is 0 2 next)) (sym el) (record {
-    is = λ l n e. let en : next ≡ n = cc in let ek : total-line ≡ l = cc in rw (← ek, ← en) refl;
-    read = λ w k n e. let en : next ≡ n = cc in (total-line, ap (got total-line) en);
-  });
-}
+whole-total line e next i c = rw e (whole-plain WholeLine.Total total-line 2 (λ s m h. h) next i c refl)
 
 -- ---- a let from its expression on: q is what the expression came to, t whether the word cannot be given, c what the code read of `)` and LF
 
