@@ -2,14 +2,17 @@
 use Prim.Native.Nat.{ℕ, _+_, _-_, _≤_}
 use native.Mathlib.Nat.{add-zero}
 use native.Mathlib.Omega.{arith}
-use mathlib.Core.Path.{_≡_, refl, sym, ap, _∙_}
+use mathlib.Core.Path.{_≡_, refl, sym, ap, subst, _∙_}
 use mathlib.Core.Bool.{Bool, true, false, not, _&&_}
 use mathlib.Core.List.{List, [], _∷_, _++_, append-assoc}
 use borrow.Author.Tests.{le-leb, leb-true, not-true, not-false}
 use lib.Dec.{leb}
-use lib.ListN.{length, length-append}
+use lib.ListN.{length, take, length-append}
+use lib.Ieee.{Float}
+use Rattle.numbers.specs.declared.Length.{Length}
 use Rattle.sheets.specs.declared.Value.{Value}
-use Rattle.sheets.specs.Text.{Word}
+use Rattle.sheets.specs.declared.Value.the-variants.{Metres}
+use Rattle.sheets.specs.Text.{Word, ascii}
 use Rattle.sheets.specs.code.reader.Reader.{got, readWord}
 use Rattle.sheets.specs.Kinds.{kindOf, kindName}
 use Rattle.sheets.specs.Output.{fields, fieldsText, outputLine}
@@ -64,6 +67,14 @@ module _ (s : List ℕ) (from end : ℕ) (x : Value) (ok b : Bool) (e : ok ≡ b
       let t = fieldsText (fields x) in
       let m = (n ++ t) ++ (10 ∷ []) in
       rw (sym e ∙ not-false ok h, ← append-assoc n t (10 ∷ [])) (written-then w (32 ∷ m) p (written-then (32 ∷ []) m q (written-then (n ++ t) (10 ∷ []) u v)))
+
+-- a total's line
+pub total-whole : (t : Length) (ok b : Bool) → ok ≡ b → not ok ≡ false → (row : List Float) → take 1 row ≡ t .0 ∷ [] → {d d₁ d₂ f : List ℕ} {at i k r : ℕ}
+    → Written d at (ascii "total l") d₁ i → Written d₁ i (fieldsText (take 1 row)) d₂ k → Written d₂ k (10 ∷ []) f r → Written d at (lineIf b (ascii "total") 0 5 (Metres t)) f r
+unfolding lineIf outputLine
+total-whole t ok b e h row er {d} {d₁} {d₂} {f} {at} {i} {k} {r} p q v =
+    let fs = fieldsText (t .0 ∷ []) in
+    rw (sym e ∙ not-false ok h) (written-then (ascii "total l") (fs ++ (10 ∷ [])) p (written-then fs (10 ∷ []) (subst (λ xs. Written d₁ i (fieldsText xs) d₂ k) er q) v))
 
 -- ---- a word that was read
 

@@ -3,11 +3,12 @@ use crate::Value;
 use crate::rows::value::kind_of;
 use crate::run::fields::put_byte;
 use crate::run::fields::put_fields;
+use numbers::Length;
 ghost use mathlib.Core.Path.{_≡_};
 ghost use mathlib.Core.List.{_∷_};
 ghost use Prim.Native.Nat.{_+_, _-_, _≤_};
 ghost use lib.ListN.{length, replicate};
-ghost use Rattle.sheets.specs.code.run.Writing.{Written, part, zero64, padded, fieldCount, plainLetter, orientationText, kindText, valueText, fitting, room, lineIf};
+ghost use Rattle.sheets.specs.code.run.Writing.{Written, part, zero64, padded, fieldCount, plainLetter, orientationText, kindText, valueText, fitting, room, lineIf, totalIf};
 
 // Four fields, and 0 behind them up to twelve.
 fn short_fields(a: f64, b: f64, c: f64, d: f64) -> [f64; 12]
@@ -171,4 +172,19 @@ pub fn output_line(s: &[u8], from: usize, end: usize, v: Value, out: &mut [u8], 
     let j = put_byte(32, out, i);
     let k = put_value(v, out, j);
     put_byte(10, out, k)
+}
+
+// The line of a total at a place of a buffer, and the place after it. Where there is no room nothing is written.
+// It is not written by `output_line`: with two callers that would no longer be compiled into the loop over lines, and each show would copy its value once more.
+pub fn total_line(sum: Length, out: &mut [u8], at: usize) -> usize
+    ensures { λ r. ⌜ Written (now (out .entry)) at (totalIf (now (out .entry)) at sum) (now (out .exit)) r ⌝ }
+{
+    let ok = has_room(5, 0, 5, out.len(), at);
+    if !ok {
+        return at;
+    }
+    let row = short_fields(sum.0, 0.0, 0.0, 0.0);
+    let i = put_text(b"total l", out, at);
+    let n = put_fields(&row, 1, out, i);
+    put_byte(10, out, n)
 }

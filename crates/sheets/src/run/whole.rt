@@ -5,10 +5,12 @@ use crate::Value;
 use crate::reader::lines::NameAt;
 use crate::reader::lines::WholeLine;
 use crate::rows::limits::in_limit;
+use crate::rows::limits::is_near;
 use crate::rows::value::Slot;
 use crate::rows::value::kind_of;
 use crate::run::readings::reading_index;
 use crate::run::text::output_line;
+use crate::run::text::total_line;
 use numbers::Length;
 ghost use mathlib.Core.Path.{_≡_};
 ghost use mathlib.Core.Option.{some};
@@ -122,8 +124,11 @@ fn show(
 fn total(sum: Length, out: &mut [u8], written: usize) -> Evaluated
     ensures { λ r. ⌜ TotalLine sum (now (out .entry)) written r (now (out .exit)) ⌝ }
 {
-    let v = Value::Metres(sum);
-    tested_line(b"total", 0, 5, v, out, written)
+    if is_near(sum.0) {
+        let n = total_line(sum, out, written);
+        return Evaluated::Is(2, n);
+    }
+    Evaluated::Stops(7)
 }
 
 // A line, where its word stands at the place j and x is the slot there; where it names none both are left aside.

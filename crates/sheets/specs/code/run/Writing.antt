@@ -7,8 +7,10 @@ use lib.Dec.{eqb, leb, ltb}
 use lib.ListN.{length, getD, set, take, drop, replicate}
 use lib.Ieee.{Float, binary64, ofBits}
 use Rattle.frames.specs.declared.Orientation.the-variants.{Enu, Ned, Body, Wan}
+use Rattle.numbers.specs.declared.Length.{Length}
 use Rattle.sheets.specs.declared.Value.{Value}
-use Rattle.sheets.specs.Text.{_⌢_}
+use Rattle.sheets.specs.declared.Value.the-variants.{Metres}
+use Rattle.sheets.specs.Text.{ascii, _⌢_}
 use Rattle.sheets.specs.Kinds.{kindOf, orientationName, kindName}
 use Rattle.sheets.specs.Table.{when}
 use Rattle.sheets.specs.code.rows.KindCodes.{kindAt}
@@ -67,3 +69,7 @@ room s from end d at = fitting (length s) from end (length d) at
 unfoldable pub lineIf : Bool → List ℕ → ℕ → ℕ → Value → List ℕ
 lineIf true s from end x = outputLine (part s from end) x
 lineIf false s from end x = []
+
+-- the line of a total, where there is room
+abbrev pub totalIf : List ℕ → ℕ → Length → List ℕ
+totalIf d at t = lineIf (room (ascii "total") 0 5 d at) (ascii "total") 0 5 (Metres t)
