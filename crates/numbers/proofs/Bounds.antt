@@ -53,7 +53,7 @@ units-abs s q k = go (ltb (q * 2 ^ k) (2 ^ 2098))
     go true = odd-abs 54 s q k 1074
     go false = refl
 
-round-abs : (s : Bool) (a b : ℕ) → round binary64 false a b ≡ abs (round binary64 s a b)
+pub round-abs : (s : Bool) (a b : ℕ) → round binary64 false a b ≡ abs (round binary64 s a b)
 round-abs s a b = round-is binary64 false a b ∙ units-abs s _ _ ∙ ap abs (sym (round-is binary64 s a b))
 
 pub bounded-round : (s : Bool) (a b B : ℕ) → 0 < b → a ≤ B * b → B ≤ 2 ^ 53 → Bounded (round binary64 s a b) B

@@ -23,5 +23,6 @@ pub mod FitLaws
 pub mod AngleLaws
 pub mod NormalisedLaws
 pub mod VecLaws
+pub mod DifferenceLaws
 pub mod Examples
 pub mod Computed
