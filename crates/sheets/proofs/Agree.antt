@@ -10,7 +10,7 @@ use Rattle.frames.specs.declared.LocalFrame.{LocalFrame}
 use Rattle.sheets.specs.declared.Value.{Value}
 use Rattle.sheets.specs.declared.Value.the-variants.{Number, Metres}
 use Rattle.sheets.specs.Text.{Word}
-use Rattle.sheets.specs.Trees.{Expr, Exprs, word-expr, num-expr, form-expr, nil, _▸_, Line, let-line, show-line, total-line}
+use Rattle.sheets.specs.Trees.{Expr, Exprs, word-expr, num-expr, form-expr, nil, _▸_, Line, let-line, show-line, total-line, apart-line, signless}
 use Rattle.sheets.specs.Kinds.{Kind, number, len, kindOf, kindCode}
 use Rattle.sheets.specs.Table.{on, table}
 use Rattle.sheets.specs.Lookup.{Hit, find, findKind}
@@ -19,7 +19,8 @@ use Rattle.sheets.specs.Scopes.{Scope, opened, give}
 use Rattle.sheets.specs.Limits.{numValue, inLimit}
 use Rattle.sheets.specs.Entries.{total}
 use Rattle.sheets.specs.Refusals.{Fault, name, kind, Checked, fine, bad, thenᶜ, known?}
-use Rattle.sheets.specs.Machine.{Out, goes, stops, sticks, after, then, orSticks, test, met, meet, made, result, provided, applyRow, eval, evals, State, rescoped, step, readings}
+use Rattle.sheets.specs.Aparts.{fixes, standApart}
+use Rattle.sheets.specs.Machine.{Out, goes, stops, sticks, after, then, orSticks, test, met, meet, made, result, provided, applyRow, eval, evals, State, rescoped, step, readings, heldApart}
 use Rattle.sheets.specs.Check.{kindOfExpr, kindsOfExprs, Stateᶜ, lineᶜ, noted, stepᶜ, readingKinds}
 use Rattle.sheets.proofs.rows.FindKind.{given, mapped, find-kind}
 use Rattle.sheets.proofs.rows.Kept.{Kept, OfHit, kept-find}
@@ -127,6 +128,13 @@ agree-line i s c (let-line w x) l =
 agree-line i s c (show-line w) l =
     agree-then Sees Leaving (meet (lookup w (s .scope .known))) (known? name (lookup w (c .known))) _ _ (agree-word w (s .scope .known) (c .known) (l .known-like)) (λ y k r. ((kindCode k, c), refl, l))
 agree-line i s c total-line l = agree-then Sees Leaving (met (Metres (total (s .entries)))) (fine len) _ _ (agree-test [] (inLimit (Metres (total (s .entries)))) (Metres (total (s .entries))) len refl) (λ y k r. ((2, c), refl, l))
+agree-line i s c (apart-line q) l =
+    let x = Number (numValue (signless q)) in
+    agree-then Sees Leaving (met x) (fine number) _ _ (agree-test [] (inLimit x) x number refl) (λ y k r. go (standApart (numValue (signless q)) (fixes (s .entries))))
+  where
+    go : (b : Bool) → Agree Leaving (heldApart b s) (fine (254, c))
+    go true = ((254, c), refl, l)
+    go false = tt
 
 pub agree-step : (i : ℕ) (s : State) (c : Stateᶜ) (x : Line) → View s c → Agree View (step i s x) (stepᶜ i c x)
 unfolding stepᶜ

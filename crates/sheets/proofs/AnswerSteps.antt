@@ -26,6 +26,7 @@ use Rattle.sheets.proofs.run.WritingLaws.{name-written, laid-first}
 use Rattle.sheets.proofs.Sound.{agree}
 use Rattle.sheets.proofs.ClaimHolds.{unstuck, claim}
 use Rattle.sheets.proofs.TotalsHold.{totals-add-up}
+use Rattle.sheets.proofs.ApartsHold.{stand-apart}
 use Rattle.sheets.proofs.ConfinedHolds.{list-confined, output-confined}
 use Rattle.sheets.proofs.reader.SheetLaws.{reader-reads}
 use Rattle.sheets.specs.Claim.{All}
@@ -180,5 +181,6 @@ both S R kinds out r kinds′ out′ hc hr fits = record {
   list-confined = list-confined S kinds (r .checked) kinds′ hc;
   output-confined = output-confined S R out (r .ran) out′ hr;
   totals-add-up = totals-add-up S R out (r .ran) out′ fits hr;
+  stand-apart = stand-apart S R out (r .ran) out′ hr;
   claimed = λ k n o. claim S R kinds out k n o fits (r .checked) kinds′ hc (r .ran) out′ hr;
 }

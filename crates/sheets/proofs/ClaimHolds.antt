@@ -19,7 +19,7 @@ use Rattle.sheets.specs.Trees.{Sheet}
 use Rattle.sheets.specs.Grammar.{Written, FirstBad, Form, formed, badLine, Reads}
 use Rattle.sheets.specs.Names.{Given}
 use Rattle.sheets.specs.Kinds.{Kind, kindOf, kindCode}
-use Rattle.sheets.specs.Refusals.{Fault, name, kind, limit, centre, Refusal, size, lent, form, ellipsoid, fault, stop, refusalNumber}
+use Rattle.sheets.specs.Refusals.{Fault, name, kind, limit, centre, Refusal, size, lent, form, ellipsoid, fault, stop, refusalNumber, apart}
 use Rattle.sheets.specs.Machine.{Ran, done, stopped, stuck, machine}
 use Rattle.sheets.specs.Check.{Walked, passes, refuses, walk}
 use Rattle.sheets.specs.Answers.{sized, ranged, Verdict, admitted, refused, ofWalked, ofRange, ofForm, ofSize, verdict, CheckAnswer, checkOf, laid, kindsOfVerdict, CheckOwes, RunAnswer, Tells, RunOf, lentRun, RunOwes}
@@ -36,7 +36,7 @@ use Rattle.sheets.specs.Table.{when}
 
 refusalOf : ℕ → Refusal
 refusalOf n =
-    when (eqb n 1) size (when (eqb n 2) lent (when (eqb n 3) form (when (eqb n 4) ellipsoid (when (eqb n 5) (fault name) (when (eqb n 6) (fault kind) (when (eqb n 7) (stop limit) (stop centre)))))))
+    when (eqb n 1) size (when (eqb n 2) lent (when (eqb n 3) form (when (eqb n 4) ellipsoid (when (eqb n 5) (fault name) (when (eqb n 6) (fault kind) (when (eqb n 7) (stop limit) (when (eqb n 8) (stop centre) (stop apart))))))))
 
 refusal-of : (r : Refusal) → refusalOf (refusalNumber r) ≡ r
 unfolding refusalOf
@@ -48,6 +48,7 @@ refusal-of (fault name) = refl
 refusal-of (fault kind) = refl
 refusal-of (stop limit) = refl
 refusal-of (stop centre) = refl
+refusal-of (stop apart) = refl
 
 refusal-same : (r q : Refusal) → refusalNumber r ≡ refusalNumber q → r ≡ q
 refusal-same r q e = sym (refusal-of r) ∙ ap refusalOf e ∙ refusal-of q
@@ -61,6 +62,7 @@ refusal-some (fault name) = omega arith
 refusal-some (fault kind) = omega arith
 refusal-some (stop limit) = omega arith
 refusal-some (stop centre) = omega arith
+refusal-some (stop apart) = omega arith
 
 fault-some : (f : Fault) → 5 ≤ refusalNumber (fault f)
 fault-some name = omega arith

@@ -13,7 +13,7 @@ use Rattle.sheets.specs.Trees.{Line, Sheet}
 use Rattle.sheets.specs.Grammar.{Form, Reads}
 use Rattle.sheets.specs.Kinds.{Kind}
 use Rattle.sheets.specs.Names.{Known}
-use Rattle.sheets.specs.Refusals.{limit, centre, refusalNumber}
+use Rattle.sheets.specs.Refusals.{limit, centre, refusalNumber, apart}
 use Rattle.sheets.specs.Machine.{Ran, done, stopped, machine}
 use Rattle.sheets.specs.Admitted.{LinesFit}
 use Rattle.sheets.specs.Answers.{sized, Verdict, admitted, refused, ofSize, verdict, CheckAnswer, checkOf, laid, kindsOfVerdict, lentKinds, CheckOwes, RunAnswer, Tells, RunOf, lentRun, RunOwes}
@@ -45,13 +45,14 @@ lent-says S false o w = go (sized S)
 -- ---- the run
 
 -- a text in the first bytes
-text-laid : (out t : List ℕ) (n i : ℕ) → length t ≤ length out → (¬ (n ≡ 0) → ¬ (n ≡ 7) → ¬ (n ≡ 8) → length t ≡ 0) → OutputConfined out (record { number = n; line = i; written = length t }) (laid t out)
+text-laid : (out t : List ℕ) (n i : ℕ) → length t ≤ length out → (¬ (n ≡ 0) → ¬ (n ≡ 7) → ¬ (n ≡ 8) → ¬ (n ≡ 9) → length t ≡ 0) → OutputConfined out (record { number = n; line = i; written = length t }) (laid t out)
 text-laid out t n i fits few = record { output-length = length-laid t out fits; output-rest = drop-append-seam t (drop (length t) out); count-within = fits; refused-count = few }
 
 tells-confined : (out : List ℕ) (q : Ran) → length (ranText q) ≤ length out → (r : RunAnswer) (out′ : List ℕ) → Tells q out r out′ → OutputConfined out r out′
-tells-confined out (done fs s) fits r out′ (er, eo) = rw (er, eo) (text-laid out (ranText (done fs s)) 0 0 fits (λ a b c. absurd (a refl)))
-tells-confined out (stopped fs limit i s) fits r out′ (er, eo) = rw (er, eo) (text-laid out (ranText (stopped fs limit i s)) 7 i fits (λ a b c. absurd (b refl)))
-tells-confined out (stopped fs centre i s) fits r out′ (er, eo) = rw (er, eo) (text-laid out (ranText (stopped fs centre i s)) 8 i fits (λ a b c. absurd (c refl)))
+tells-confined out (done fs s) fits r out′ (er, eo) = rw (er, eo) (text-laid out (ranText (done fs s)) 0 0 fits (λ a b c d. absurd (a refl)))
+tells-confined out (stopped fs limit i s) fits r out′ (er, eo) = rw (er, eo) (text-laid out (ranText (stopped fs limit i s)) 7 i fits (λ a b c d. absurd (b refl)))
+tells-confined out (stopped fs centre i s) fits r out′ (er, eo) = rw (er, eo) (text-laid out (ranText (stopped fs centre i s)) 8 i fits (λ a b c d. absurd (c refl)))
+tells-confined out (stopped fs apart i s) fits r out′ (er, eo) = rw (er, eo) (text-laid out (ranText (stopped fs apart i s)) 9 i fits (λ a b c d. absurd (d refl)))
 
 pub output-confined : (S : List ℕ) (R : List Float) (out : List ℕ) (r : RunAnswer) (out′ : List ℕ) → RunOwes S R out r out′ → OutputConfined out r out′
 output-confined S R out r out′ o = go (verdict (lentRun R out) S (o .form-is)) (lent-says S (lentRun R out) (o .form-is) (o .grammar)) (o .answer)
@@ -65,7 +66,7 @@ output-confined S R out r out′ o = go (verdict (lentRun R out) S (o .form-is))
         let z = text-fits c R (h .2 .grammar .1) in
         let n = lent-out (eqb (length R) 16) el in
         tells-confined out (machine c R) (omega arith) r out′ t
-    go (refused k j) h (er, eo) = rw (er, eo) (text-laid out [] (refusalNumber k) j (omega arith) (λ a b c. refl))
+    go (refused k j) h (er, eo) = rw (er, eo) (text-laid out [] (refusalNumber k) j (omega arith) (λ a b c d. refl))
 
 -- ---- the check
 

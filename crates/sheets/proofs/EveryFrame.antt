@@ -45,7 +45,7 @@ sums es = go (metres (num 0)) es (decimal-fits 0 0)
 
     go : (t : Length) (es : List Entry) → Fits (t .0) → Fits (sumFrom t es .0)
     go t [] h = h
-    go t (shown i w x ∷ es) h = go (plus t (held 𝐥 x)) es (plus-fits t (held 𝐥 x) h)
+    go t (shown i g ∷ es) h = go (plus t (held 𝐥 (g .value))) es (plus-fits t (held 𝐥 (g .value)) h)
     go t (summed u ∷ es) h = go t es h
 
 rows : All (Keeps Good Sound) table

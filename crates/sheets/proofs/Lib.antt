@@ -4,12 +4,15 @@ pub mod Alike
 pub mod Agree
 pub mod Sound
 pub mod LineWrites
+pub mod Members
+pub mod ApartLaws
 pub mod Trace
 pub mod EveryFrame
 pub mod ClaimHolds
 pub mod ConfinedHolds
 pub mod TotalText
 pub mod TotalsHold
+pub mod ApartsHold
 pub mod OwedOnce
 pub mod Starred
 pub mod Pinned

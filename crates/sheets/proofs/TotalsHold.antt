@@ -12,7 +12,7 @@ use Rattle.numbers.specs.Lengths.{metres}
 use Rattle.numbers.specs.declared.Length.{Length}
 use Rattle.sheets.specs.declared.Value.the-variants.{Metres}
 use Rattle.sheets.specs.Trees.{Line, Sheet, numbered}
-use Rattle.sheets.specs.Grammar.{IsWord, AreLines, IsSheet, after as afterPhase, Written, formed}
+use Rattle.sheets.specs.Grammar.{IsWord, AreLines, IsSheet, after as afterPhase, Written}
 use Rattle.sheets.specs.Letters.{𝐥, held}
 use Rattle.sheets.specs.Entries.{Entry, shown, summed, entryName, entryValue, entryLines, plus, total}
 use Rattle.sheets.specs.Machine.{Out, goes, stops, sticks, State, step, Ran, done, stopped, stuck, onward, steps, start, machine}
@@ -20,7 +20,7 @@ use Rattle.sheets.specs.Answers.{Verdict, admitted, refused, verdict, Ru
 use Rattle.sheets.specs.Claim.{All}
 use Rattle.sheets.specs.Writes.{Writes, a-show, a-total, nothing, writes}
 use Rattle.sheets.specs.Totals.{cut, textLines, AddUp, TotalsAddUp}
-use Rattle.sheets.proofs.reader.FormLaws.{form-once}
+use Rattle.sheets.proofs.reader.FormLaws.{same-sheet}
 use Rattle.sheets.proofs.LineWrites.{Left, Wrote, line-wrote, Named, line-named, lastState, last-after}
 use Rattle.sheets.proofs.run.TextBound.{ranText}
 use Rattle.sheets.proofs.run.EntryLaws.{total-show, total-total}
@@ -36,10 +36,10 @@ Follows t [] [] = Unit {0}
 Follows t [] (a ∷ ds) = ⊥
 Follows t (nothing ∷ ws) ds = Follows t ws ds
 Follows t (a-show w ∷ ws) [] = Unit {0}
-Follows t (a-show w ∷ ws) (shown i v x ∷ ds) = (w ≡ v) × Follows (plus t (held 𝐥 x)) ws ds
+Follows t (a-show w ∷ ws) (shown i g ∷ ds) = (w ≡ g .name) × Follows (plus t (held 𝐥 (g .value))) ws ds
 Follows t (a-show w ∷ ws) (summed u ∷ ds) = ⊥
 Follows t (a-total ∷ ws) [] = Unit {0}
-Follows t (a-total ∷ ws) (shown i v x ∷ ds) = ⊥
+Follows t (a-total ∷ ws) (shown i g ∷ ds) = ⊥
 Follows t (a-total ∷ ws) (summed u ∷ ds) = (u ≡ t) × Follows t ws ds
 
 follows-none : (t : Length) (ws : List Writes) → Follows t ws []
@@ -57,10 +57,10 @@ more-none ws s = ([], sym (append-nil (s .entries)), follows-none (total (s .ent
 
 more-line : (i : ℕ) (k : Writes) (ws : List Writes) (s t : State) → Wrote i s k t → (es : List Entry) → More ws t es → More (k ∷ ws) s es
 more-line i nothing ws s t e es (ds, h, f) = (ds, h ∙ ap (λ (z : List Entry). z ++ ds) e, subst (λ z. Follows (total z) ws ds) e f)
-more-line i (a-show w) ws s t (x, e) es (ds, h, f) = (
-  shown i w x ∷ ds,
-  h ∙ ap (λ (z : List Entry). z ++ ds) e ∙ append-assoc (s .entries) (shown i w x ∷ []) ds,
-  (refl, subst (λ u. Follows u ws ds) (ap total e ∙ total-show (s .entries) i w x) f),
+more-line i (a-show w) ws s t (g, ew, e) es (ds, h, f) = (
+  shown i g ∷ ds,
+  h ∙ ap (λ (z : List Entry). z ++ ds) e ∙ append-assoc (s .entries) (shown i g ∷ []) ds,
+  (ew, subst (λ u. Follows u ws ds) (ap total e ∙ total-show (s .entries) i g) f),
 )
 more-line i a-total ws s t e es (ds, h, f) = (
   summed (total (s .entries)) ∷ ds,
@@ -89,10 +89,10 @@ names-are t [] [] h f = tt
 names-are t [] (a ∷ ds) h f = absurd f
 names-are t (nothing ∷ ws) ds h f = names-are t ws ds (h .1) f
 names-are t (a-show w ∷ ws) [] h f = tt
-names-are t (a-show w ∷ ws) (shown i v x ∷ ds) h (e, f) = (subst IsWord e (h .0), names-are (plus t (held 𝐥 x)) ws ds (h .1) f)
+names-are t (a-show w ∷ ws) (shown i g ∷ ds) h (e, f) = (subst IsWord e (h .0), names-are (plus t (held 𝐥 (g .value))) ws ds (h .1) f)
 names-are t (a-show w ∷ ws) (summed u ∷ ds) h f = absurd f
 names-are t (a-total ∷ ws) [] h f = tt
-names-are t (a-total ∷ ws) (shown i v x ∷ ds) h f = absurd f
+names-are t (a-total ∷ ws) (shown i g ∷ ds) h f = absurd f
 names-are t (a-total ∷ ws) (summed u ∷ ds) h (e, f) = (h .0, names-are t ws ds (h .1) f)
 
 abbrev bares : List Entry → List (List ℕ)
@@ -104,10 +104,10 @@ follows-add t [] [] g f = refl
 follows-add t [] (a ∷ ds) g f = absurd f
 follows-add t (nothing ∷ ws) ds g f = follows-add t ws ds g f
 follows-add t (a-show w ∷ ws) [] g f = tt
-follows-add t (a-show w ∷ ws) (shown i v x ∷ ds) g (e, f) = (_, ap (λ v. bare v x) (sym e), subst (λ o. AddUp (plus t o) ws (bares ds)) (sym (value-reads x (g .0))) (follows-add (plus t (held 𝐥 x)) ws ds (g .1) f))
+follows-add t (a-show w ∷ ws) (shown i n ∷ ds) g (e, f) = (_, ap (λ v. bare v (n .value)) (sym e), subst (λ o. AddUp (plus t o) ws (bares ds)) (sym (value-reads (n .value) (g .0))) (follows-add (plus t (held 𝐥 (n .value))) ws ds (g .1) f))
 follows-add t (a-show w ∷ ws) (summed u ∷ ds) g f = absurd f
 follows-add t (a-total ∷ ws) [] g f = tt
-follows-add t (a-total ∷ ws) (shown i v x ∷ ds) g f = absurd f
+follows-add t (a-total ∷ ws) (shown i n ∷ ds) g f = absurd f
 follows-add t (a-total ∷ ws) (summed u ∷ ds) g (e, f) = (_, refl, value-reads (Metres u) (g .0) ∙ ap some e, follows-add t ws ds (g .1) f)
 
 text-adds : (c : Sheet) (rs : List Float) → IsSheet c → All Fits rs → AddUp (metres (num 0)) (map writes (c .lines)) (textLines (ranText (machine c rs)))
@@ -140,10 +140,6 @@ totals-add-up S R out r out′ fit o = record {
   adds = λ c w. go c w (verdict (lentRun R out) S (o .form-is)) (lent-says S (lentRun R out) (o .form-is) (o .grammar)) (o .answer);
 }
   where
-    -- the same sheet is admitted
-    same : (c d : Sheet) → Written S c → Written S d → c ≡ d
-    same c d v w = let e = form-once S (formed c) (formed d) v w in cc
-
     go : (c : Sheet) → Written S c → (v : Verdict) → LentSays (lentRun R out) S v → RunOf v R out r out′ → AddUp (metres (num 0)) (map writes (c .lines)) (textLines (take (r .written) out′))
-    go c w (admitted d cs) (l, h) t = subst (λ s. AddUp (metres (num 0)) (map writes (c .lines)) (textLines s)) (sym (tells-text (machine d R) out r out′ t ∙ ap (λ d. ranText (machine d R)) (sym (same c d w (h .2 .grammar))))) (text-adds c R (w .1) fit)
+    go c w (admitted d cs) (l, h) t = subst (λ s. AddUp (metres (num 0)) (map writes (c .lines)) (textLines s)) (sym (tells-text (machine d R) out r out′ t ∙ ap (λ d. ranText (machine d R)) (sym (same-sheet S c d w (h .2 .grammar))))) (text-adds c R (w .1) fit)
     go c w (refused k j) h (er, eo) = rw er (adds-none (metres (num 0)) (map writes (c .lines)))

@@ -11,15 +11,16 @@ use Rattle.sheets.proofs.ByCases.{by-cases}
 use Rattle.sheets.specs.declared.Value.{Value}
 use Rattle.sheets.specs.declared.Value.the-variants.{Number, Radians, Metres, Geocentric, Geodetic, Vector, Frame}
 use Rattle.sheets.specs.Text.{Word}
-use Rattle.sheets.specs.Trees.{Num, Expr, Exprs, word-expr, num-expr, form-expr, nil, _▸_, Line, let-line, show-line, total-line, Sheet, numbered}
+use Rattle.sheets.specs.Trees.{Num, Expr, Exprs, word-expr, num-expr, form-expr, nil, _▸_, Line, let-line, show-line, total-line, Sheet, numbered, apart-line, signless}
 use Rattle.sheets.specs.Letters.{Letter, 𝐧, 𝐚, 𝐥, 𝐠, 𝐝, 𝐯, 𝐟, ⟦_⟧, Holds, held, hold, both, orientations}
 use Rattle.sheets.specs.Table.{Row, on, when, table}
 use Rattle.sheets.specs.Lookup.{sameWord, shared, Hit, hit, find}
-use Rattle.sheets.specs.Names.{Given, Known, orElse, lookup, barred, readingWords, givenOn}
+use Rattle.sheets.specs.Names.{Given, Known, orElse, lookup, barred, readingWords, givenOn, letLine}
 use Rattle.sheets.specs.Entries.{Entry, shown, summed, entryValue, total}
 use Rattle.sheets.specs.Scopes.{giveIf}
 use Rattle.sheets.specs.Limits.{numValue, inLimit}
-use Rattle.sheets.specs.Machine.{Out, goes, stops, sticks, after, then, test, met, meet, made, result, provided, applyRow, eval, evals, State, rescoped, write, step, Ran, done, stopped, stuck, afterwards, onward, steps, readings, start, machine}
+use Rattle.sheets.specs.Aparts.{fixes, standApart}
+use Rattle.sheets.specs.Machine.{Out, goes, stops, sticks, after, then, test, met, meet, made, result, provided, applyRow, eval, evals, State, rescoped, write, step, Ran, done, stopped, stuck, afterwards, onward, steps, readings, start, machine, heldApart}
 use Rattle.sheets.specs.Claim.{All, framesMade}
 use Rattle.sheets.proofs.LineWrites.{lastState}
 
@@ -179,8 +180,15 @@ module _ (Good : Value → Type 0) (Fine : LocalFrame → Type 0) (nums : (q : N
   unfolding step
   good-step i s (let-line w x) h =
       good-then Good GoodState (eval x (s .ellipsoid) (s .scope .known)) _ (good-eval x (s .ellipsoid) (s .scope .known) (h .0)) (λ y j. good-give (barred w (s .scope .known)) (givenOn i w y) s h j)
-  good-step i s (show-line w) h = good-then Good GoodState (meet (lookup w (s .scope .known))) _ (good-meet (lookup w (s .scope .known)) (good-lookup w (s .scope .known) (h .0))) (λ y j. (good-write s (shown i w y) h j, tt))
+  good-step i s (show-line w) h = good-then Good GoodState (meet (lookup w (s .scope .known))) _ (good-meet (lookup w (s .scope .known)) (good-lookup w (s .scope .known) (h .0))) (λ y j. (good-write s (shown i (givenOn (letLine w (s .scope .known)) w y)) h j, tt))
   good-step i s total-line h = good-then Good GoodState (met (Metres (total (s .entries)))) _ (good-test [] (inLimit (Metres (total (s .entries)))) (Metres (total (s .entries))) tt (sums (s .entries))) (λ y j. (good-write s (summed (total (s .entries))) h (sums (s .entries)), tt))
+  good-step i s (apart-line q) h =
+      let x = Number (numValue (signless q)) in
+      good-then Good GoodState (met x) _ (good-test [] (inLimit x) x tt (nums (signless q))) (λ y j. go (standApart (numValue (signless q)) (fixes (s .entries))))
+    where
+      go : (b : Bool) → GoodOut GoodState (heldApart b s)
+      go true = (h, tt)
+      go false = tt
 
   -- so are the frames made, however the run came to its end
   abbrev GoodRan : Ran → Type 0

@@ -10,6 +10,8 @@ pub mod FloatLays
 pub mod KnownLaws
 pub mod ListedLaws
 pub mod EntryLaws
+pub mod FixLaws
+pub mod StandLaws
 pub mod LaidSteps
 pub mod ArmSteps
 pub mod KeySteps

@@ -1,4 +1,4 @@
--- The answers of the check and of the run over bytes and lent buffers: refusals 1 to 8 in checking order, and what each call leaves in its buffer.
+-- The answers of the check and of the run over bytes and lent buffers: refusals 1 to 9 in checking order, and what each call leaves in its buffer.
 use mathlib.Core.Path.{_≡_}
 use mathlib.Core.List.{List, _∷_, _++_}
 use mathlib.Core.Bool.{Bool, true, false, _&&_}

@@ -1,7 +1,7 @@
 -- The check's walk of refusals 5 and 6: names and kinds from the sheet alone, in the machine's order.
 use mathlib.Core.List.{List, [], _∷_, _++_, map}
 use Prim.Native.Nat.{ℕ}
-use Rattle.sheets.specs.Trees.{Expr, Exprs, word-expr, num-expr, form-expr, nil, _▸_, Line, let-line, show-line, total-line, Sheet, Numbered, numbered}
+use Rattle.sheets.specs.Trees.{Expr, Exprs, word-expr, num-expr, form-expr, nil, _▸_, Line, let-line, show-line, total-line, apart-line, Sheet, Numbered, numbered}
 use Rattle.sheets.specs.Kinds.{Kind, number, kindCode}
 use Rattle.sheets.specs.Table.{table}
 use Rattle.sheets.specs.Lookup.{findKind}
@@ -30,6 +30,7 @@ unfoldable pub lineᶜ : ℕ → Scope Kind → Line → Checked (ℕ × Scope K
 lineᶜ i c (let-line w x) = thenᶜ (kindOfExpr x (c .known)) (λ k. thenᶜ (give (givenOn i w k) c) (λ d. fine (kindCode k, d)))
 lineᶜ i c (show-line w) = thenᶜ (known? name (lookup w (c .known))) (λ k. fine (kindCode k, c))
 lineᶜ i c total-line = fine (2, c)
+lineᶜ i c (apart-line q) = fine (254, c)
 
 -- its code behind those of the lines before it, and what it leaves
 abbrev pub noted : Stateᶜ → ℕ × Scope Kind → Stateᶜ

@@ -53,7 +53,7 @@ abbrev pub All : {A : Type 0} → (A → Type 0) → List A → Type 0
 All P [] = Unit {0}
 All P (x ∷ xs) = P x × All P xs
 
--- it sticks at line j, or refusal 7 or 8 stopped it before
+-- it sticks at line j, or refusal 7, 8 or 9 stopped it before
 abbrev pub SticksAt : ℕ → Ran → Type 0
 SticksAt j (done fs s) = ⊥
 SticksAt j (stopped fs r i s) = i ≤ j
@@ -90,5 +90,5 @@ pub record Claim (S : List ℕ) (R : List Float) (kinds : List ℕ) (checked : C
   pub frames-hold : (c : Sheet) (codes : List ℕ) → Admits S c codes → All FrameHolds (framesMade (machine c R))
   -- the check answers 3 at line j exactly when the size of S is right and line j is the first that breaks the grammar
   pub refused-form : (j : ℕ) → ((checked .number ≡ 3) × (checked .line ≡ j)) ↔ ((sized S ≡ true) × FirstBad S j)
-  -- if the check refuses S for a name or a kind, the machine sticks at the line that the check answers, or 7 or 8 stopped it before
+  -- if the check refuses S for a name or a kind, the machine sticks at the line that the check answers, or 7, 8 or 9 stopped it before
   pub refused-sticks : (f : Fault) → checked .number ≡ refusalNumber (fault f) → (c : Sheet) × Written S c × SticksAt (checked .line) (machine c R)

@@ -13,8 +13,8 @@ pub record OutputConfined (out : List ℕ) (r : RunAnswer) (out′ : List ℕ) :
   pub output-length : length out′ ≡ length out
   pub output-rest : drop (r .written) out′ ≡ drop (r .written) out
   pub count-within : r .written ≤ length out
-  -- every refusal's count is 0 but for 7 and 8
-  pub refused-count : ¬ (r .number ≡ 0) → ¬ (r .number ≡ 7) → ¬ (r .number ≡ 8) → r .written ≡ 0
+  -- every refusal's count is 0 but for 7, 8 and 9
+  pub refused-count : ¬ (r .number ≡ 0) → ¬ (r .number ≡ 7) → ¬ (r .number ≡ 8) → ¬ (r .number ≡ 9) → r .written ≡ 0
 
 -- The check of the bytes s, lent `kinds`, answers r and leaves kinds′.
 pub record ListConfined (s kinds : List ℕ) (r : CheckAnswer) (kinds′ : List ℕ) : Type 0 where

@@ -8,7 +8,7 @@ use mathlib.Core.Bool.{Bool, true, false}
 use Prim.Native.Nat.{ℕ, zero, suc, _+_, _≤_}
 use lib.ListN.{length}
 use Rattle.sheets.specs.Text.{Word, ascii, _⌢_, lf}
-use Rattle.sheets.specs.Trees.{Num, Expr, Exprs, word-expr, num-expr, form-expr, nil, _▸_, Line, let-line, show-line, total-line, Head, wgs84, custom, Sheet}
+use Rattle.sheets.specs.Trees.{Num, signless, Expr, Exprs, word-expr, num-expr, form-expr, nil, _▸_, Line, let-line, show-line, total-line, apart-line, Head, wgs84, custom, Sheet}
 
 -- the bytes a to z, and 0 to 9
 abbrev pub Letter : ℕ → Type 0
@@ -85,11 +85,12 @@ printHead h = ended (headBracket h)
 abbrev pub IsHead : Head → Type 0
 IsHead h = IsEnded (headBracket h)
 
--- Every other line is `(let WORD EXPR)`, `(show WORD)` or, by document 02, request Two, `(total)`.
+-- Every other line is `(let WORD EXPR)`, `(show WORD)` or, by document 02, `(total)`, request Two, or `(apart NUM)`, request Three, whose NUM has no minus.
 abbrev pub lineBracket : Line → Expr
 lineBracket (let-line w x) = form-expr (ascii "let") (word-expr w ▸ x ▸ nil)
 lineBracket (show-line w) = form-expr (ascii "show") (word-expr w ▸ nil)
 lineBracket total-line = form-expr (ascii "total") nil
+lineBracket (apart-line q) = form-expr (ascii "apart") (num-expr (signless q) ▸ nil)
 
 abbrev pub printLine : Line → List ℕ
 printLine l = ended (lineBracket l)

@@ -11,12 +11,14 @@ pub mod Scopes
 pub mod Limits
 pub mod Output
 pub mod Entries
+pub mod Aparts
 pub mod Writes
 pub mod Machine
 pub mod Check
 pub mod Admitted
 pub mod Answers
 pub mod Totals
+pub mod Collars
 pub mod Confined
 pub mod Claim
 pub mod Both

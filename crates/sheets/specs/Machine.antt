@@ -12,16 +12,17 @@ use Rattle.frames.specs.declared.LocalFrame.{LocalFrame}
 use Rattle.sheets.specs.declared.Value.{Value}
 use Rattle.sheets.specs.declared.Value.the-variants.{Number, Radians, Metres, Geocentric, Geodetic, Vector, Frame}
 use Rattle.sheets.specs.Text.{Word}
-use Rattle.sheets.specs.Trees.{Expr, Exprs, word-expr, num-expr, form-expr, nil, _▸_, Line, let-line, show-line, total-line, Head, wgs84, custom, Sheet, Numbered, numbered}
+use Rattle.sheets.specs.Trees.{signless, Expr, Exprs, word-expr, num-expr, form-expr, nil, _▸_, Line, let-line, show-line, total-line, apart-line, Head, wgs84, custom, Sheet, Numbered, numbered}
 use Rattle.sheets.specs.Table.{on, table}
 use Rattle.sheets.specs.Lookup.{Hit, find}
-use Rattle.sheets.specs.Names.{Known, givenOn, lookup, readingWords}
+use Rattle.sheets.specs.Names.{Known, givenOn, lookup, letLine, readingWords}
 use Rattle.sheets.specs.Scopes.{Scope, opened, give}
 use Rattle.sheets.specs.Limits.{numValue, inLimit}
 use Rattle.sheets.specs.Entries.{Entry, shown, summed, total}
-use Rattle.sheets.specs.Refusals.{Stop, limit, centre, Checked, fine, bad}
+use Rattle.sheets.specs.Aparts.{fixes, standApart}
+use Rattle.sheets.specs.Refusals.{Stop, limit, centre, apart, Checked, fine, bad}
 
--- what a step comes to, with the frames that it made: it goes on with a result, refusal 7 or 8 stops it, or it sticks
+-- what a step comes to, with the frames that it made: it goes on with a result, refusal 7, 8 or 9 stops it, or it sticks
 pub data Out (A : Type 0) : Type 0 where
   goes : List LocalFrame → A → Out A
   stops : List LocalFrame → Stop → Out A
@@ -48,7 +49,7 @@ abbrev pub test : List LocalFrame → Bool → Value → Out Value
 test fs true x = goes fs x
 test fs false x = stops fs limit
 
--- a NUM's or a word's value is tested where it is met, and a total's sum on its line
+-- a NUM's or a word's value is tested where it is met, a total's sum and an apart's NUM on their lines
 abbrev pub met : Value → Out Value
 met x = test [] (inLimit x) x
 
@@ -106,11 +107,17 @@ rescoped s c = then (orSticks c) (λ d. goes [] (record { ellipsoid = s .ellipso
 abbrev pub write : State → Entry → State
 write s e = record { ellipsoid = s .ellipsoid; scope = s .scope; entries = s .entries ++ (e ∷ []) }
 
--- line i: a let's expression is read before its name is given; a total is the sum of what was shown before it
+-- refusal 9, where the names shown do not stand apart
+abbrev pub heldApart : Bool → State → Out State
+heldApart true s = goes [] s
+heldApart false s = stops [] apart
+
+-- line i: a let's expression is read before its name is given; a total is the sum of what was shown before it, and an apart holds what was shown before it
 unfoldable pub step : ℕ → State → Line → Out State
 step i s (let-line w x) = then (eval x (s .ellipsoid) (s .scope .known)) (λ y. rescoped s (give (givenOn i w y) (s .scope)))
-step i s (show-line w) = then (meet (lookup w (s .scope .known))) (λ y. goes [] (write s (shown i w y)))
+step i s (show-line w) = then (meet (lookup w (s .scope .known))) (λ y. goes [] (write s (shown i (givenOn (letLine w (s .scope .known)) w y))))
 step i s total-line = let t = total (s .entries) in then (met (Metres t)) (λ y. goes [] (write s (summed t)))
+step i s (apart-line q) = let least = numValue (signless q) in then (met (Number least)) (λ y. heldApart (standApart least (fixes (s .entries))) s)
 
 -- ---- a sheet
 

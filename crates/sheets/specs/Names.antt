@@ -4,7 +4,7 @@ use mathlib.Core.Option.{Option, none, some}
 use mathlib.Core.Bool.{Bool, true, false, _||_}
 use Prim.Native.Nat.{ℕ}
 use Rattle.sheets.specs.Text.{Word, ascii}
-use Rattle.sheets.specs.Table.{table}
+use Rattle.sheets.specs.Table.{when, table}
 use Rattle.sheets.specs.Lookup.{sameWord, opens}
 
 -- a word with what it stands for, and the line of the let that gave it, 0 for a reading
@@ -28,6 +28,11 @@ orElse false x o = o
 abbrev pub lookup : {A : Type 0} → Word → Known A → Option A
 lookup w [] = none
 lookup w (g ∷ gs) = orElse (sameWord w (g .name)) (g .value) (lookup w gs)
+
+-- the line of the let that gave a word, 0 where none did
+abbrev pub letLine : {A : Type 0} → Word → Known A → ℕ
+letLine w [] = 0
+letLine w (g ∷ gs) = when (sameWord w (g .name)) (g .line) (letLine w gs)
 
 abbrev pub knows : {A : Type 0} → Word → Known A → Bool
 knows w [] = false

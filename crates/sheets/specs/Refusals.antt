@@ -1,4 +1,4 @@
--- Why a sheet is refused, by document 01's numbers.
+-- Why a sheet is refused, by the numbers of documents 01 and 02.
 use Prim.Native.Nat.{ℕ}
 use mathlib.Core.Option.{Option, none, some}
 
@@ -6,9 +6,9 @@ use mathlib.Core.Option.{Option, none, some}
 pub data Fault : Type 0 where
   name kind : Fault
 
--- what stops the machine: 7 and 8
+-- what stops the machine: 7, 8 and, of names that do not stand apart, 9
 pub data Stop : Type 0 where
-  limit centre : Stop
+  limit centre apart : Stop
 
 pub data Refusal : Type 0 where
   size lent form ellipsoid : Refusal
@@ -24,6 +24,7 @@ refusalNumber (fault name) = 5
 refusalNumber (fault kind) = 6
 refusalNumber (stop limit) = 7
 refusalNumber (stop centre) = 8
+refusalNumber (stop apart) = 9
 
 -- ---- a result, or the fault met on the way to it
 

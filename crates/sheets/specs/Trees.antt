@@ -1,6 +1,6 @@
 -- Sheets as trees: the words and numbers of a sheet, without its brackets, spaces and line ends.
 use mathlib.Core.List.{List, [], _∷_, _++_}
-use mathlib.Core.Bool.{Bool}
+use mathlib.Core.Bool.{Bool, false}
 use Prim.Native.Nat.{ℕ, suc, _+_, _-_, _*_}
 pub use Rattle.sheets.specs.Text.{Word}
 
@@ -15,6 +15,14 @@ pub record Num : Type 0 where
 unfoldable pub decimalFrom : ℕ → List ℕ → ℕ
 decimalFrom n [] = n
 decimalFrom n (b ∷ ds) = decimalFrom (n * 10 + (b - 48)) ds
+
+-- a NUM without a minus, and as a NUM
+pub record Unsigned : Type 0 where
+  pub whole : List ℕ
+  pub part : List ℕ
+
+abbrev pub signless : Unsigned → Num
+signless q = record { minus = false; whole = q .whole; part = q .part }
 
 -- all digits of a NUM as one number, sign and point left out: 1250 for -12.50
 abbrev pub numDigits : Num → ℕ
@@ -36,11 +44,12 @@ pub data Head : Type 0 where
   wgs84 : Head
   custom : Num → Num → Head
 
--- every other line; the total is document 02's, request Two
+-- every other line; the total and the apart are document 02's, requests Two and Three
 pub data Line : Type 0 where
   let-line : Word → Expr → Line
   show-line : Word → Line
   total-line : Line
+  apart-line : Unsigned → Line
 
 pub record Sheet : Type 0 where
   pub head : Head

@@ -33,7 +33,7 @@ pub(crate) enum Applied {
 }
 
 // The code of a value's kind and a number: of an expression the place after it, of a let the place of the next line, of a show the bytes then written.
-// Else the number of the refusal that stops the machine, 7 or 8; or that the machine sticks.
+// Else the number of the refusal that stops the machine, 7, 8 or 9; or that the machine sticks.
 pub(crate) enum Evaluated {
     Is(u8, usize),
     Stops(u8),

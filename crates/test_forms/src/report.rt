@@ -73,6 +73,10 @@ fn whole(line: WholeLine) {
             word(name.code);
         }
         WholeLine::Total => put(b" total"),
+        WholeLine::Apart(least) => {
+            put(b" apart ");
+            double(least);
+        }
     }
 }
 

@@ -8,7 +8,7 @@ use lib.ListN.{length, take, set, replicate}
 use lib.Seq.{take-suc-set, length-take-le}
 use Rattle.frames.specs.declared.Ellipsoid.{Ellipsoid}
 use Rattle.sheets.specs.Text.{Word}
-use Rattle.sheets.specs.Trees.{Line, let-line, show-line, total-line, Head, Sheet, numbered}
+use Rattle.sheets.specs.Trees.{Line, let-line, show-line, total-line, Head, Sheet, numbered, apart-line}
 use Rattle.sheets.specs.Grammar.{IsLine, after}
 use Rattle.sheets.specs.code.reader.Codes.{codeOf}
 use Rattle.sheets.specs.code.reader.Reader.{Got, none as noGot, got, readLine, readHead, Form, formed, badLine, _thenᶠ_, linesStep, readLines, sheetStep, readSheet}
@@ -165,6 +165,7 @@ module _ (s : List ℕ) (start at passed : ℕ) (words codes newest : List ℕ) 
         stands-after (let-line w x) hl p (k, has, free, new, e, en) = rw (← e, ← en) (stands-given words codes newest passed (m .state .scope .known) (m .stands) lw lc le w (hl .0 .1 .0) k (passed + 2))
         stands-after (show-line w) hl p (k, has, e, en) = rw (← e, ← en) (stands-shown words codes newest passed (m .state .scope .known) (m .stands) lw lc le w (hl .0 .1 .0) k has)
         stands-after total-line hl p (e, en) = rw (← e) (stands-blank words codes newest passed (m .state .scope .known) (m .stands) lw le (p .0))
+        stands-after (apart-line q) hl p (e, en) = rw (← e) (stands-blank words codes newest passed (m .state .scope .known) (m .stands) lw le (p .0))
 
         whole-after : (l : Line) → readLine s at ≡ got l next
             → readLines 95 2 0 s start ≡ (readLines (95 - (passed + 1)) (passed + 1 + 2) (after (m .phase) l) s next thenᶠ (λ ls. formed (m .before (l ∷ ls))))

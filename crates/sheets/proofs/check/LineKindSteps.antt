@@ -6,9 +6,10 @@ use mathlib.Core.Bool.{Bool, true, false, _||_}
 use mathlib.Core.List.{List, [], _∷_}
 use mathlib.Core.Option.{Option, none, some}
 use lib.Dec.{leb}
+use lib.Ieee.{Float}
 use mir.Val.{hasKey}
 use Rattle.sheets.specs.Text.{Word}
-use Rattle.sheets.specs.Trees.{Line, let-line, show-line, total-line}
+use Rattle.sheets.specs.Trees.{Line, let-line, show-line, total-line, apart-line}
 use Rattle.sheets.specs.Grammar.{IsWord}
 use Rattle.sheets.specs.code.reader.Codes.{codeFrom, codeOf}
 use Rattle.sheets.specs.code.reader.Reader.{Got, none as noGot, got, readExpr, orElse, nothing, closing, limit, let-word, rest, readLine}
@@ -117,17 +118,21 @@ whole-show line name e next i c r h = rw e record {
 }
 
 -- one that names no word and is always passed, with this kind code
-whole-plain : (line : WholeLine) (l : Line) (k : ℕ) → ((s : List ℕ) (m : Line) → WholeIn s line m → m ≡ l) → (next i : ℕ) (c : Scope Kind) → LineKind.Is 0 k next ≡ lineSaid (lineWord l) (lineᶜ i c l) next → WholeHas line next i c (LineKind.Is 0 k next)
-whole-plain line l k only next i c e = record {
-  is = λ s m hm. rw (only s m hm) record {
-    is = λ m n em. let en : next ≡ n = cc in let el : l ≡ m = cc in rw (← el, ← en) e;
+whole-plain : (line : WholeLine) (k next i : ℕ) (c : Scope Kind) → ((s : List ℕ) (l : Line) → WholeIn s line l → LineKind.Is 0 k next ≡ lineSaid (lineWord l) (lineᶜ i c l) next) → WholeHas line next i c (LineKind.Is 0 k next)
+whole-plain line k next i c said = record {
+  is = λ s l hl. record {
+    is = λ m n em. let en : next ≡ n = cc in let el : l ≡ m = cc in rw (← el, ← en) (said s l hl);
     read = λ w j n er. let en : next ≡ n = cc in (l, ap (got l) en);
   };
 }
 
 pub whole-total : (line : WholeLine) → line ≡ WholeLine.Total → (next i : ℕ) (c : Scope Kind) → WholeHas line next i c (LineKind.Is 0 2 next)
 unfolding lineᶜ lineSaid codeFrom
-whole-total line e next i c = rw e (whole-plain WholeLine.Total total-line 2 (λ s m h. h) next i c refl)
+whole-total line e next i c = rw e (whole-plain WholeLine.Total 2 next i c (λ s l h. rw h refl))
+
+pub whole-apart : (line : WholeLine) (x : Float) → line ≡ WholeLine.Apart x → (next i : ℕ) (c : Scope Kind) → WholeHas line next i c (LineKind.Is 0 254 next)
+unfolding lineᶜ lineSaid codeFrom
+whole-apart line x e next i c = rw e (whole-plain (WholeLine.Apart x) 254 next i c (λ s l h. rw (h .2) refl))
 
 -- ---- a let from its expression on: q is what the expression came to, t whether the word cannot be given, c what the code read of `)` and LF
 

@@ -4,7 +4,7 @@ use mathlib.Core.List.{List, [], _∷_, _++_, append-assoc, append-nil}
 use mathlib.Core.Option.{Option, none, some}
 use mathlib.Core.Bool.{Bool, true, false, _||_}
 use Prim.Native.Nat.{ℕ, suc}
-use Rattle.sheets.specs.Trees.{Line, let-line, show-line, total-line, Sheet, numbered}
+use Rattle.sheets.specs.Trees.{Line, let-line, show-line, total-line, Sheet, numbered, apart-line}
 use Rattle.sheets.specs.Kinds.{Kind, kindCode}
 use Rattle.sheets.specs.Table.{table}
 use Rattle.sheets.specs.Lookup.{opens}
@@ -40,6 +40,7 @@ leaves i c (show-line w) = go (lookup w (c .known)) refl
     go none e = tt
     go (some k) e = (k, e, refl, refl)
 leaves i c total-line = (refl, refl)
+leaves i c (apart-line q) = (refl, refl)
 
 -- and one that fits is passed
 takes : (i : ℕ) (c : Scope Kind) (l : Line) (js : Known Kind) (n : ℕ) → LineFits i (c .known) l js n → (d : Scope Kind) × (lineᶜ i c l ≡ fine (n, d)) × (d .known ≡ js)
@@ -57,6 +58,7 @@ takes i c (show-line w) js n (k, has, e, en) = (
   e,
 )
 takes i c total-line js n (e, en) = (c, ap (λ (m : ℕ). fine (m, c)) en, e)
+takes i c (apart-line q) js n (e, en) = (c, ap (λ (m : ℕ). fine (m, c)) en, e)
 
 -- ---- lines: what passes is admitted
 

@@ -4,7 +4,7 @@ use native.Mathlib.Omega.{arith}
 use mathlib.Core.Path.{_≡_, sym, _∙_}
 use mathlib.Core.List.{List}
 use Rattle.sheets.specs.Trees.{Sheet}
-use Rattle.sheets.specs.Grammar.{FirstBad, at-head, at-line, at-97, Form, Reads}
+use Rattle.sheets.specs.Grammar.{Written, FirstBad, at-head, at-line, at-97, Form, formed, Reads}
 use Rattle.sheets.specs.code.reader.Reader.{readSheet}
 use Rattle.sheets.proofs.reader.SheetLaws.{reader-reads, reader-only}
 
@@ -14,6 +14,10 @@ module _ (s : List ℕ) where
 
   pub form-once : (o p : Form Sheet) → Reads s o → Reads s p → o ≡ p
   form-once o p ho hp = sym (reader-only s o ho) ∙ reader-only s p hp
+
+  -- one sheet
+  pub same-sheet : (c d : Sheet) → Written s c → Written s d → c ≡ d
+  same-sheet c d v w = let e = form-once (formed c) (formed d) v w in cc
 
   pub bad-range : (j : ℕ) → FirstBad s j → (1 ≤ j) × (j ≤ 97)
   bad-range j (at-head h) = (omega arith, omega arith)

@@ -30,26 +30,26 @@ head-none o e = rw e refl
 -- ---- two numbers
 module _ (s : List ℕ) (at : ℕ) (v : DoubleRead) (ev : v ≡ doubled (spaced (readNum s) s at)) where
   pub custom-no-first : v ≡ DoubleRead.Not → HeadRead.Bad ≡ headOf (two readNum readNum custom s at)
-  custom-no-first h = head-none _ (more-none readNum _ s at (doubled-none _ v ev h))
+  custom-no-first h = head-none _ (more-none readNum _ s at (doubled-none (λ q. q) _ v ev h))
 
   module _ (x : Float) (n : ℕ) (h : v ≡ DoubleRead.Is x n) (u : DoubleRead) (eu : u ≡ doubled (spaced (readNum s) s n)) where
     pub custom-no-second : u ≡ DoubleRead.Not → HeadRead.Bad ≡ headOf (two readNum readNum custom s at)
     custom-no-second i =
-        let (p, ep, ex) = doubled-got _ v ev x n h in
-        head-none _ (more-got readNum _ s at p n ep ∙ more-none readNum _ s n (doubled-none _ u eu i))
+        let (p, ep, ex) = doubled-got (λ q. q) _ v ev x n h in
+        head-none _ (more-got readNum _ s at p n ep ∙ more-none readNum _ s n (doubled-none (λ q. q) _ u eu i))
 
     module _ (y : Float) (m : ℕ) (i : u ≡ DoubleRead.Is y m) (c : Read) (ec : c ≡ closed s m) where
       pub custom-no-end : c ≡ Read.Bad → HeadRead.Bad ≡ headOf (two readNum readNum custom s at)
       custom-no-end j =
-          let (p, ep, ex) = doubled-got _ v ev x n h in
-          let (q, eq, ey) = doubled-got _ u eu y m i in
+          let (p, ep, ex) = doubled-got (λ q. q) _ v ev x n h in
+          let (q, eq, ey) = doubled-got (λ q. q) _ u eu y m i in
           head-none _ (more-got readNum _ s at p n ep ∙ more-got readNum _ s n q m eq ∙ closing-none (custom p q) s m c ec j)
 
       pub custom-done : (k : ℕ) → c ≡ Read.At k → HeadRead.Custom x y k ≡ headOf (two readNum readNum custom s at)
       unfolding headOf
       custom-done k j =
-          let (p, ep, ex) = doubled-got _ v ev x n h in
-          let (q, eq, ey) = doubled-got _ u eu y m i in
+          let (p, ep, ex) = doubled-got (λ q. q) _ v ev x n h in
+          let (q, eq, ey) = doubled-got (λ q. q) _ u eu y m i in
           ap₂ (λ a b. HeadRead.Custom a b k) ex ey ∙ sym (ap headOf (more-got readNum _ s at p n ep ∙ more-got readNum _ s n q m eq ∙ closing-got (custom p q) s m c ec k j))
 
 -- ---- the word wgs84

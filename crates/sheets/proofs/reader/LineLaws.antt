@@ -8,16 +8,16 @@ use lib.Dec.{eqb}
 use lib.ListN.{length, length-append, getD}
 use borrow.Author.Tests.{eq-eqb, eqb-true}
 use Rattle.sheets.specs.Text.{Word, ascii, lf}
-use Rattle.sheets.specs.Trees.{Num, Expr, Exprs, word-expr, num-expr, form-expr, nil, _▸_, Line, let-line, show-line, total-line, Head, wgs84, custom}
+use Rattle.sheets.specs.Trees.{Num, Expr, Exprs, word-expr, num-expr, form-expr, nil, _▸_, Line, let-line, show-line, total-line, apart-line, Head, wgs84, custom}
 use Rattle.sheets.specs.Grammar.{IsWord, IsNum, sign, point, printNum, print, printArgs, IsExpr, AreArgs, ended, IsEnded, headBracket, IsHead, printHead, lineBracket, IsLine, printLine}
 use Rattle.sheets.specs.code.reader.Codes.{letter, wordChar, codeFrom, codeOf}
-use Rattle.sheets.specs.code.reader.Reader.{Got, none, got, _then_, charsIf, chars, wordIf, readWord, readExpr, orElse, nothing, opening, spaced, closing, limit, more, first, one, two, readThe, _or_, Row, fromRows, readRows, headRows, readHead, let-word, whole, wholeRows, lineRows, readBegun, rest, readLine}
+use Rattle.sheets.specs.code.reader.Reader.{Got, none, got, _then_, charsIf, chars, wordIf, readWord, readUnsigned, readExpr, orElse, nothing, opening, spaced, closing, limit, more, first, one, two, readThe, _or_, Row, fromRows, readRows, headRows, readHead, let-word, whole, wholeRows, lineRows, readBegun, rest, readLine}
 use Rattle.sheets.proofs.reader.ReaderLaws.{then-got, mapped, closing-mapped, byte-inside, limit-is}
 use Rattle.sheets.proofs.reader.Spans.{Spans, spans-append, spans-split, spans-end, Holds, holds-none, holds-then, holds-or, holds-map}
 use Rattle.sheets.proofs.reader.TokenLaws.{word-complete, num-complete, no-word, digit-letter}
 use Rattle.sheets.proofs.reader.ExprLaws.{args-stop}
 use Rattle.sheets.proofs.reader.CodeLaws.{code-same, word-by}
-use Rattle.sheets.proofs.reader.PieceLaws.{limit-sound, OpenAt, open-sound, Part, word-part, num-part, expr-part, the-part, Tail, bare-sound, one-sound, two-sound, bare-complete, one-complete, two-complete}
+use Rattle.sheets.proofs.reader.PieceLaws.{limit-sound, OpenAt, open-sound, Part, word-part, num-part, unsigned-part, expr-part, the-part, Tail, bare-sound, one-sound, two-sound, bare-complete, one-complete, two-complete}
 
 infixr 5 _&_
 -- ---- rows
@@ -225,6 +225,7 @@ line-rows =
     (word-by (ascii "let") refl, let-sound)
     & (word-by (ascii "show") refl, whole-sound word-part (ascii "show") show-line (λ w. refl))
     & (word-by (ascii "total") refl, bare-whole-sound (ascii "total") total-line refl)
+    & (word-by (ascii "apart") refl, whole-sound unsigned-part (ascii "apart") apart-line (λ q. refl))
     & tt
 
 line-reads : (s : List ℕ) (l : Line) → Reads (finished rest lineRows) s (lineBracket l) l
@@ -232,6 +233,7 @@ unfolding fromRows lineRows wholeRows orElse codeFrom wordChar
 line-reads s (let-line w x) = λ i m p h e. let-two s i ∙ two-complete word-part expr-part let-line s w x i m p (h .0) (h .1 .0) e
 line-reads s (show-line w) = λ i m p h e. whole-one readWord show-line s i ∙ one-complete word-part show-line s w i m p (h .0) e
 line-reads s total-line = λ i m p h e. whole-bare total-line s i ∙ bare-complete s total-line i m p e
+line-reads s (apart-line q) = λ i m p h e. whole-one readUnsigned apart-line s i ∙ one-complete unsigned-part apart-line s q i m p (h .0) e
 
 abbrev pub LineStands : List ℕ → ℕ → Line → ℕ → Type 0
 LineStands s at l n = Stands lineBracket s at l n

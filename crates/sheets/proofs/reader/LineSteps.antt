@@ -6,21 +6,24 @@ use mathlib.Core.Bool.{Bool, true, false}
 use mathlib.Core.List.{List}
 use lib.Dec.{eqb, leb}
 use lib.ListN.{length}
+use lib.Ieee.{Float}
 use borrow.Author.Tests.{ne-eqb, le-leb, lt-leb, leb-true, leb-false}
 use Rattle.sheets.specs.Text.{Word, ascii}
-use Rattle.sheets.specs.Trees.{Line, let-line, show-line, total-line}
+use Rattle.sheets.specs.Trees.{Unsigned, signless, Line, let-line, show-line, total-line, apart-line}
 use Rattle.sheets.specs.Grammar.{IsWord}
+use Rattle.sheets.specs.Limits.{numValue}
 use Rattle.sheets.specs.code.reader.Codes.{wordChar, codeFrom, codeOf}
-use Rattle.sheets.specs.code.reader.Reader.{Got, none, got, _then_, readWord, readExpr, orElse, nothing, opening, spaced, closing, limit, more, first, one, Row, fromRows, readRows, Begun, let-word, whole, wholeRows, lineRows, readBegun, rest, readLine}
-use Rattle.sheets.specs.code.reader.Views.{place, coded, closed, shortEnd, nameAt, namedAt, headTold, bareHead, headOpened, lineHead, WholeIn}
+use Rattle.sheets.specs.code.reader.Reader.{Got, none, got, _then_, readWord, readUnsigned, readExpr, orElse, nothing, opening, spaced, closing, limit, more, first, one, Row, fromRows, readRows, Begun, let-word, whole, wholeRows, lineRows, readBegun, rest, readLine}
+use Rattle.sheets.specs.code.reader.Views.{place, coded, closed, shortEnd, unsignedDouble, nameAt, namedAt, headTold, bareHead, headOpened, lineHead, WholeIn}
 use Rattle.sheets.proofs.reader.ReaderLaws.{then-got, mapped, closing-mapped}
 use Rattle.sheets.proofs.reader.Spans.{Holds, holds-none, holds-then, holds-at, holds-or}
 use Rattle.sheets.proofs.reader.TokenLaws.{WordAt, word-sound, word-spans}
 use Rattle.sheets.proofs.reader.PieceLaws.{space-holds, closing-holds}
 use Rattle.sheets.proofs.reader.PieceSteps.{then-none, spaced-got, spaced-inside, closing-none, closing-got}
 use Rattle.sheets.proofs.reader.RowSteps.{NoneOf, rows-miss, more-none, more-got, first-mapped, one-mapped}
-use Rattle.sheets.proofs.reader.Viewed.{placed-none, placed-got, coded-none, coded-got, named-none, named-got}
+use Rattle.sheets.proofs.reader.Viewed.{placed-none, placed-got, coded-none, coded-got, doubled-none, doubled-got, named-none, named-got}
 use Rattle.sheets.specs.declared.reader.bytes.WordRead.{WordRead}
+use Rattle.sheets.specs.declared.reader.num.DoubleRead.{DoubleRead}
 use Rattle.sheets.specs.declared.reader.expr.Read.{Read}
 use Rattle.sheets.specs.declared.reader.lines.NameAt.{NameAt}
 use Rattle.sheets.specs.declared.reader.lines.NameRead.{NameRead}
@@ -60,9 +63,10 @@ unfolding Holds
 holds-self none = tt
 holds-self (got x m) = refl
 
-word-begins : (s : List ℕ) (n : ℕ) (f : Word → List ℕ → ℕ → Got Begun) → ((w : Word) (m : ℕ) → readWord s (n + 1) ≡ got w m → Holds (Begins s n) (f w s m)) → Holds (Begins s n) (more readWord f s n)
+-- a line that begins with what `read` reads
+part-begins : {A : Type 0} (s : List ℕ) (n : ℕ) (read : List ℕ → ℕ → Got A) (f : A → List ℕ → ℕ → Got Begun) → ((v : A) (m : ℕ) → read s (n + 1) ≡ got v m → Holds (Begins s n) (f v s m)) → Holds (Begins s n) (more read f s n)
 unfolding more
-word-begins s n f h = holds-then _ (Begins s n) (spaced (readWord s) s n) _ (holds-self (spaced (readWord s) s n)) (λ w m e. h w m (spaced-got (readWord s) s n w m e .1))
+part-begins s n read f h = holds-then _ (Begins s n) (spaced (read s) s n) _ (holds-self (spaced (read s) s n)) (λ v m e. h v m (spaced-got (read s) s n v m e .1))
 
 -- the word that was read, where its name says that it stands
 named-in : (s : List ℕ) (n : ℕ) (w : Word) (m : ℕ) → readWord s (n + 1) ≡ got w m → readWord s (n + 1) ≡ got w (n + 1 + length w)
@@ -71,10 +75,11 @@ named-in s n w m e = e ∙ ap (got w) (word-spans s (n + 1) w m e)
 rows-begin : (s : List ℕ) (k n : ℕ) → Holds (Begins s n) (fromRows lineRows k s n)
 unfolding fromRows lineRows wholeRows Begins headTold
 rows-begin s k n =
-    holds-or (Begins s n) (eqb k (codeOf (ascii "let"))) _ _ n (λ e. word-begins s n _ (λ w m h. space-holds (Begins s n) (let-word w) s m (λ i. holds-at (WordAt s (n + 1)) (readWord s (n + 1)) w m (word-sound s (n + 1)) h .1))) (λ e.
-    holds-or (Begins s n) (eqb k (codeOf (ascii "show"))) _ _ n (λ e. word-begins s n _ (λ w m h. closing-holds (Begins s n) (whole (show-line w)) s m (λ i. (WholeLine.Show (nameAt w (n + 1)), refl, (w, named-in s n w m h, refl, refl))))) (λ e.
+    holds-or (Begins s n) (eqb k (codeOf (ascii "let"))) _ _ n (λ e. part-begins s n readWord _ (λ w m h. space-holds (Begins s n) (let-word w) s m (λ i. holds-at (WordAt s (n + 1)) (readWord s (n + 1)) w m (word-sound s (n + 1)) h .1))) (λ e.
+    holds-or (Begins s n) (eqb k (codeOf (ascii "show"))) _ _ n (λ e. part-begins s n readWord _ (λ w m h. closing-holds (Begins s n) (whole (show-line w)) s m (λ i. (WholeLine.Show (nameAt w (n + 1)), refl, (w, named-in s n w m h, refl, refl))))) (λ e.
     holds-or (Begins s n) (eqb k (codeOf (ascii "total"))) _ _ n (λ e. closing-holds (Begins s n) (whole total-line) s n (λ i. (WholeLine.Total, refl, refl))) (λ e.
-    holds-none (Begins s n))))
+    holds-or (Begins s n) (eqb k (codeOf (ascii "apart"))) _ _ n (λ e. part-begins s n readUnsigned _ (λ q m h. closing-holds (Begins s n) (whole (apart-line q)) s m (λ i. (WholeLine.Apart (numValue (signless q)), refl, (q, refl, refl))))) (λ e.
+    holds-none (Begins s n)))))
 
 -- what an answer of `line_head` says of the line that is read at a place
 abbrev Says : List ℕ → ℕ → Got Line → LineHead → Type 0
@@ -150,6 +155,10 @@ module _ (s : List ℕ) (k n : ℕ) where
   unfolding wholeRows fromRows orElse codeFrom wordChar headTold
   opens-total e = opens-bare total-line WholeLine.Total (λ m. refl) (rw e refl)
 
+  pub opens-apart : k ≡ codeOf (ascii "apart") → Opens wholeRows (λ q m. LineHead.Whole (WholeLine.Apart (numValue (signless q))) m) (one readUnsigned (λ q. q) s n)
+  unfolding wholeRows fromRows orElse codeFrom wordChar headTold
+  opens-apart e = opens-by wholeRows (λ q. whole (apart-line q)) _ (one readUnsigned (λ q. q) s n) (rw e (one-mapped readUnsigned (λ q. whole (apart-line q)) s n)) (λ q m. refl)
+
   -- a word that no row has
   pub opens-none : NoneOf wholeRows k → LineHead.Bad ≡ headTold n (fromRows wholeRows k s n)
   unfolding headTold
@@ -162,6 +171,14 @@ module _ (x : LineHead) (n : ℕ) (f : NameAt → ℕ → LineHead) (o : Got Wor
 
   pub name-told : (y : NameAt) (m : ℕ) → v ≡ NameRead.Is y m → f y m ≡ x
   name-told y m i = let (w, ew, ey) = named-got (n + 1) o v ev y m i in ap (λ z. f z m) ey ∙ sym (t ∙ ap (toldBy (λ w m. f (nameAt w (n + 1)) m)) ew)
+
+-- by what the code read of a NUM
+module _ (x : LineHead) (f : Float → ℕ → LineHead) (o : Got Unsigned) (t : x ≡ toldBy (λ q m. f (numValue (signless q)) m) o) (v : DoubleRead) (ev : v ≡ unsignedDouble o) where
+  pub no-double : v ≡ DoubleRead.Not → LineHead.Bad ≡ x
+  no-double i = sym (t ∙ ap (toldBy (λ q m. f (numValue (signless q)) m)) (doubled-none signless o v ev i))
+
+  pub double-told : (y : Float) (m : ℕ) → v ≡ DoubleRead.Is y m → f y m ≡ x
+  double-told y m i = let (q, eq, ey) = doubled-got signless o v ev y m i in ap (λ z. f z m) ey ∙ sym (t ∙ ap (toldBy (λ q m. f (numValue (signless q)) m)) eq)
 
 -- ---- the end of a line
 pub short-test : (at n : ℕ) → leb (n - 200) at ≡ leb n (at + 200)

@@ -2,18 +2,19 @@
 use Prim.Native.Nat.{ℕ, suc, _+_, _≤_}
 use native.Mathlib.Omega.{arith}
 use mathlib.Core.Path.{_≡_, refl, _∙_, subst}
+use mathlib.Core.Bool.{false}
 use mathlib.Core.List.{List, _∷_}
 use lib.Dec.{eqb, leb}
 use lib.ListN.{getD}
 use borrow.Author.Tests.{eq-eqb, eqb-true, leb-true}
 use Rattle.sheets.specs.Text.{Word}
-use Rattle.sheets.specs.Trees.{Expr, Exprs, word-expr, num-expr, nil, _▸_}
-use Rattle.sheets.specs.Grammar.{IsWord, print, printArgs, IsExpr, AreArgs}
+use Rattle.sheets.specs.Trees.{Unsigned, signless, Expr, Exprs, word-expr, num-expr, nil, _▸_}
+use Rattle.sheets.specs.Grammar.{IsWord, IsNum, printNum, print, printArgs, IsExpr, AreArgs}
 use Rattle.sheets.specs.code.reader.Codes.{codeOf}
-use Rattle.sheets.specs.code.reader.Reader.{Got, none, got, readWord, readNum, readExpr, orElse, nothing, spaced, closing, more, one, two, opening, readThe, limit}
+use Rattle.sheets.specs.code.reader.Reader.{Got, none, got, readWord, readWhole, readNum, readUnsigned, readExpr, orElse, nothing, spaced, closing, more, one, two, opening, readThe, limit}
 use Rattle.sheets.proofs.reader.ReaderLaws.{then-got}
 use Rattle.sheets.proofs.reader.Spans.{Spans, spans-append, spans-split, Holds, holds-none, holds-got, holds-then, holds-or, holds-map}
-use Rattle.sheets.proofs.reader.TokenLaws.{Stops, WordAt, word-sound, word-complete, num-sound, num-complete}
+use Rattle.sheets.proofs.reader.TokenLaws.{Stops, WordAt, word-sound, word-complete, WholeAt, whole-sound, whole-complete, num-sound, num-complete}
 use Rattle.sheets.proofs.reader.ExprLaws.{ExprAt, expr-sound, expr-complete, args-stop}
 use Rattle.sheets.proofs.reader.CodeLaws.{code-same}
 
@@ -60,6 +61,17 @@ word-part = record { make = word-expr; sound = λ s at. word-sound s at; complet
 
 abbrev pub num-part : Part readNum
 num-part = record { make = num-expr; sound = λ s at. num-sound s at; complete = λ s q at n p h t. num-complete s q at n p h t .0 }
+
+pub unsigned-sound : (s : List ℕ) (at : ℕ) → Holds (λ v n. ExprAt s 11 at (num-expr (signless v)) n) (readUnsigned s at)
+unfolding readUnsigned
+unsigned-sound s at = holds-then (WholeAt s false at) _ (readWhole false s at) _ (whole-sound s false at) (λ q n h. holds-got (λ v n. ExprAt s 11 at (num-expr (signless v)) n) (record { whole = q .whole; part = q .part }) n (h .0, h .1))
+
+pub unsigned-complete : (s : List ℕ) (v : Unsigned) (at n : ℕ) → Spans s (printNum (signless v)) at n → IsNum (signless v) → Stops s n → readUnsigned s at ≡ got v n
+unfolding readUnsigned
+unsigned-complete s v at n p h t = then-got (readWhole false s at) _ (signless v) n (whole-complete s false (v .whole) (v .part) at n p (h .0) (h .1) (h .2) (h .3) (h .4) t)
+
+abbrev pub unsigned-part : Part readUnsigned
+unsigned-part = record { make = λ v. num-expr (signless v); sound = λ s at. unsigned-sound s at; complete = λ s v at n p h t. unsigned-complete s v at n p h t }
 
 abbrev pub expr-part : Part (readExpr 11)
 expr-part = record { make = λ x. x; sound = λ s at. expr-sound s 11 at; complete = λ s x at n p h t. expr-complete s x 11 at n p h t }

@@ -143,10 +143,10 @@ no-word s at e = rw (eq-eqb _ _ e) refl
 abbrev pub NumAt : List ℕ → ℕ → Num → ℕ → Type 0
 NumAt s at q n = Spans s (printNum q) at n × IsNum q
 
-abbrev WholeAt : List ℕ → Bool → ℕ → Num → ℕ → Type 0
+abbrev pub WholeAt : List ℕ → Bool → ℕ → Num → ℕ → Type 0
 WholeAt s m at q n = Spans s (q .whole ++ point (q .part)) at n × IsNum q × (q .minus ≡ m)
 
-whole-sound : (s : List ℕ) (m : Bool) (at : ℕ) → Holds (WholeAt s m at) (readWhole m s at)
+pub whole-sound : (s : List ℕ) (m : Bool) (at : ℕ) → Holds (WholeAt s m at) (readWhole m s at)
 unfolding readWhole wholeStep partIf partEnd Spans
 whole-sound s m at = go (chars digit 9 s at) (chars-run digit s 9 at)
   where
@@ -186,7 +186,7 @@ num-sound s at = go (eqb (getD s at 0) 45) refl
     go true e = signed true (at + 1) (λ q n h. (rw (h .2) (eqb-true (getD s at 0) 45 e, h .0), h .1)) (readWhole true s (at + 1)) (whole-sound s true (at + 1))
     go false e = signed false at (λ q n h. (rw (h .2) (h .0), h .1)) (readWhole false s at) (whole-sound s false at)
 
-whole-complete : (s : List ℕ) (m : Bool) (w t : List ℕ) (at n : ℕ) → Spans s (w ++ point t) at n → Each Digit w → 1 ≤ length w → length w ≤ 9 → Each Digit t → length t ≤ 6 → Stops s n
+pub whole-complete : (s : List ℕ) (m : Bool) (w t : List ℕ) (at n : ℕ) → Spans s (w ++ point t) at n → Each Digit w → 1 ≤ length w → length w ≤ 9 → Each Digit t → length t ≤ 6 → Stops s n
     → readWhole m s at ≡ got (record { minus = m; whole = w; part = t }) n
 unfolding readWhole partIf Spans digit
 whole-complete s m w t at n p hw one nine ht six e = go t p ht six

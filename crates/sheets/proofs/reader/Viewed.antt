@@ -8,7 +8,7 @@ use Rattle.sheets.specs.Trees.{Num}
 use Rattle.sheets.specs.code.reader.Codes.{codeOf}
 use Rattle.sheets.specs.code.reader.Reader.{Got, none, got}
 use Rattle.sheets.specs.Limits.{numValue}
-use Rattle.sheets.specs.code.reader.Views.{place, coded, counted, numeralOf, doubled, nameAt, namedAt}
+use Rattle.sheets.specs.code.reader.Views.{place, coded, counted, numeralOf, doubledBy, nameAt, namedAt}
 use Rattle.sheets.specs.declared.reader.bytes.WordRead.{WordRead}
 use Rattle.sheets.specs.declared.reader.num.Numeral.{Numeral}
 use Rattle.sheets.specs.declared.reader.num.NumRead.{NumRead}
@@ -47,15 +47,15 @@ unfolding counted
 counted-got none r e y h = let z : _≡_ {A = ℕ} 0 1 = cc in absurd (omega arith)
 counted-got (got q n) r e y h = let i : numeralOf q n ≡ y = cc in let j : n ≡ y .end = ap (λ (x : Numeral). x .end) i in (q, rw j refl, sym i ∙ ap (numeralOf q) j)
 
-pub doubled-none : (o : Got Num) (r : DoubleRead) → r ≡ doubled o → r ≡ DoubleRead.Not → o ≡ none
-unfolding doubled
-doubled-none none r e h = refl
-doubled-none (got x n) r e h = let z : _≡_ {A = ℕ} 0 1 = cc in absurd (omega arith)
+pub doubled-none : {A : Type 0} (f : A → Num) (o : Got A) (r : DoubleRead) → r ≡ doubledBy f o → r ≡ DoubleRead.Not → o ≡ none
+unfolding doubledBy
+doubled-none f none r e h = refl
+doubled-none f (got x n) r e h = let z : _≡_ {A = ℕ} 0 1 = cc in absurd (omega arith)
 
-pub doubled-got : (o : Got Num) (r : DoubleRead) → r ≡ doubled o → (x : Float) (n : ℕ) → r ≡ DoubleRead.Is x n → (q : Num) × (o ≡ got q n) × (x ≡ numValue q)
-unfolding doubled
-doubled-got none r e x n h = let z : _≡_ {A = ℕ} 0 1 = cc in absurd (omega arith)
-doubled-got (got q m) r e x n h = let i : m ≡ n = cc in (q, ap (got q) i, cc)
+pub doubled-got : {A : Type 0} (f : A → Num) (o : Got A) (r : DoubleRead) → r ≡ doubledBy f o → (x : Float) (n : ℕ) → r ≡ DoubleRead.Is x n → (q : A) × (o ≡ got q n) × (x ≡ numValue (f q))
+unfolding doubledBy
+doubled-got f none r e x n h = let z : _≡_ {A = ℕ} 0 1 = cc in absurd (omega arith)
+doubled-got f (got q m) r e x n h = let i : m ≡ n = cc in (q, ap (got q) i, cc)
 
 pub named-none : (at : ℕ) (o : Got Word) (r : NameRead) → r ≡ namedAt at o → r ≡ NameRead.Not → o ≡ none
 unfolding namedAt

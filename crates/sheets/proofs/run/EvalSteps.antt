@@ -101,7 +101,7 @@ module _ (s : List ℕ) (at : ℕ) (words kinds newest : List ℕ) (f : List Flo
     unfolding _then_ eval
     leaf-num room y m i q eq = record {
       is = λ ps rd e x n k.
-          let (t, et, ey) = doubled-got (readNum s at) v ev y m i in
+          let (t, et, ey) = doubled-got (λ q. q) (readNum s at) v ev y m i in
           let j : got (num-expr t) m ≡ got x n = ap (λ o. o then (λ x n. got (num-expr x) n)) (sym et) ∙ sym leaf-is ∙ k in
           let ix : x ≡ num-expr t = cc in
           let im : n ≡ m = cc in
@@ -112,7 +112,7 @@ module _ (s : List ℕ) (at : ℕ) (words kinds newest : List ℕ) (f : List Flo
     unfolding _then_
     leaf-none i q g = record {
       is = λ ps rd e x n k.
-          let j : noGot ≡ got x n = ap (λ o. o then (λ x n. got (num-expr x) n)) (sym (doubled-none (readNum s at) v ev i)) ∙ sym leaf-is ∙ k in
+          let j : noGot ≡ got x n = ap (λ o. o then (λ x n. got (num-expr x) n)) (sym (doubled-none (λ q. q) (readNum s at) v ev i)) ∙ sym leaf-is ∙ k in
           let z : _≡_ {A = ℕ} 0 1 = cc in absurd (omega arith);
     }
 

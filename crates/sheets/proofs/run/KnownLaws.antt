@@ -34,7 +34,7 @@ getD-inside (x ∷ xs) (suc i) a b h = getD-inside xs i a b (omega arith)
 
 -- ---- all readings, by their words' codes
 
-eqb-comm : (a b : ℕ) → eqb a b ≡ eqb b a
+pub eqb-comm : (a b : ℕ) → eqb a b ≡ eqb b a
 eqb-comm a b = go (eqb a b) refl
   where
     go : (t : Bool) → eqb a b ≡ t → eqb a b ≡ eqb b a

@@ -11,18 +11,18 @@ use lib.Seq.{getD-set-same, getD-set-other}
 use lib.Ieee.{Float}
 use borrow.Author.Tests.{eqb-true, eqb-false, leb-false}
 use Rattle.numbers.specs.Ops.{num}
+use Rattle.frames.specs.declared.GeocentricPosition.{GeocentricPosition}
 use Rattle.sheets.specs.declared.Value.{Value}
-use Rattle.sheets.specs.declared.Value.the-variants.{Number}
+use Rattle.sheets.specs.declared.Value.the-variants.{Number, Geocentric}
 use Rattle.sheets.specs.declared.rows.value.Slot.{Slot}
-use Rattle.sheets.specs.Kinds.{number, kindOf, kindCode}
+use Rattle.sheets.specs.Kinds.{kindOf, kindCode}
 use Rattle.sheets.specs.Table.{when}
 use Rattle.sheets.specs.Names.{Known}
 use Rattle.sheets.specs.code.check.Newest.{Newest, placeFrom}
 use Rattle.sheets.specs.code.check.Newest as Search
 use Rattle.sheets.specs.code.run.Slots.{emptySlot}
-use Rattle.sheets.specs.code.run.Floats.{floatAt, Lies, KeptBelow}
+use Rattle.sheets.specs.code.run.Floats.{floatAt, positionAt, valueAt, Lies, KeptBelow}
 use Rattle.sheets.specs.code.run.Known.{wordFound, readingIndex, readingFound, foundAt, SlotListed, Listed, Ready}
-use Rattle.sheets.specs.code.run.Keeping.{EntryKept}
 use Rattle.sheets.proofs.check.NewestLaws.{newest-none, newest-more, place-is, by-place}
 use Rattle.sheets.proofs.run.FloatLaws.{kept-lies}
 use Rattle.sheets.proofs.run.KnownLaws.{getD-inside}
@@ -39,7 +39,7 @@ listed-start t rs f lt lf h = record {
 }
 
 -- a word's place is one of the first n
-at-most : (words : List ℕ) (c n : ℕ) → placeFrom words n c ≤ n
+pub at-most : (words : List ℕ) (c n : ℕ) → placeFrom words n c ≤ n
 unfolding placeFrom
 at-most words c zero = omega arith
 at-most words c (suc n) = go (eqb (getD words (suc n) 0) c) (at-most words c n)
@@ -117,22 +117,18 @@ module _ (t : List Slot) (rs : List Float) (words kinds newest : List ℕ) (f : 
       go true q = refl
       go false q = ap (λ x. some (Number x)) (h .reading (readingIndex c) (leb-false 16 (readingIndex c) q))
 
-  -- what was found at a place: its kind and its floats stand there
-  pub found-kept : getD kinds 0 0 ≡ kindCode number → (c j : ℕ) → Search.Placed words newest c j → (d : Slot) (v : Value) → foundAt (getD t j d .value) f c j ≡ some v → EntryKept kinds f n j v
-  unfolding foundAt
-  found-kept zero-kind c j p d v e = go (eqb j 0) refl (leb 16 (readingIndex c)) (ap (λ (x : Slot). foundAt (x .value) f c j) (getD-inside t j emptySlot d (omega (arith, p .most, h .slots))) ∙ e)
+  -- a g that was found at a place: its position lies there
+  pub found-position : (c j : ℕ) → Search.Placed words newest c j → (d : Slot) (v : Value) → foundAt (getD t j d .value) f c j ≡ some v → (p : GeocentricPosition) → v ≡ Geocentric p → positionAt f (21 * j) ≡ p
+  unfolding foundAt valueAt
+  found-position c j pl d v e p ep = go (eqb j 0) refl (leb 16 (readingIndex c)) (ap (λ (x : Slot). foundAt (x .value) f c j) (getD-inside t j emptySlot d (omega (arith, pl .most, h .slots))) ∙ e)
     where
-      go : (b : Bool) → eqb j 0 ≡ b → (none-such : Bool) → when b (when none-such none (some (Number (floatAt f (readingIndex c))))) (some (getD t j emptySlot .value)) ≡ some v → EntryKept kinds f n j v
+      go : (b : Bool) → eqb j 0 ≡ b → (none-such : Bool) → when b (when none-such none (some (Number (floatAt f (readingIndex c))))) (some (getD t j emptySlot .value)) ≡ some v → positionAt f (21 * j) ≡ p
       go true q true e = let z : _≡_ {A = ℕ} 0 1 = cc in absurd (omega arith)
-      go true q false e =
-          let z = eqb-true j 0 q in
-          let ev : Number (floatAt f (readingIndex c)) ≡ v = cc in
-          record { few = omega (arith, z); kind = ap (λ k. getD kinds k 0) z ∙ zero-kind ∙ ap (λ u. kindCode (kindOf u)) ev; lies = λ a. absurd (omega (arith, z)) }
+      go true q false e = let z : _≡_ {A = ℕ} 0 1 = cc in absurd (omega arith)
       go false q u e =
-          let z : (j ≡ 0 → ⊥) = eqb-false j 0 q in
-          let ev : getD t j emptySlot .value ≡ v = cc in
-          let s = placed-slot j z (placed-few c j p) in
-          record { few = placed-few c j p; kind = s .kind ∙ ap (λ x. kindCode (kindOf x)) ev; lies = λ a. subst (Lies f (21 * j)) ev (s .lies) }
+          let ev : getD t j emptySlot .value ≡ Geocentric p = cc in
+          let l = subst (Lies f (21 * j)) ev (placed-slot j (eqb-false j 0 q) (placed-few c j pl) .lies) .is in
+          cc
 
 -- the known words stay where only what is above them has changed
 pub ready-kept : (ps : Known Value) (words kinds newest : List ℕ) (f : List Float) (top : ℕ) → Ready ps words kinds newest f top → (above : ℕ) (g : List Float) → KeptBelow f above g → top ≤ above → Ready ps words kinds newest g top

@@ -22,6 +22,7 @@ use Rattle.sheets.specs.Grammar.{IsWord, after as afterPhase}
 use Rattle.sheets.specs.Kinds.{kindOf, kindCode}
 use Rattle.sheets.specs.Names.{givenOn}
 use Rattle.sheets.specs.Entries.{entryLines, total}
+use Rattle.sheets.specs.Aparts.{fixes}
 use Rattle.sheets.specs.Machine.{eval, State, step, steps}
 use Rattle.sheets.specs.Answers.{laid, Tells}
 use Rattle.sheets.specs.Claim.{Unstuck}
@@ -31,7 +32,7 @@ use Rattle.sheets.specs.code.reader.Views.{lineHead}
 use Rattle.sheets.specs.code.check.Newest as Search
 use Rattle.sheets.specs.code.run.Floats.{Lies}
 use Rattle.sheets.specs.code.run.Known.{Tabled, Ready}
-use Rattle.sheets.specs.code.run.Keeping.{shows, EntriesKept}
+use Rattle.sheets.specs.code.run.Keeping.{Lined, FixesKept}
 use Rattle.sheets.specs.code.run.Evaluating.{Answers}
 use Rattle.sheets.specs.code.run.Running.{WithReadings, LetWith, GivenAt, stoppedAt, Runs}
 use Rattle.sheets.specs.code.run.Wholes.{Names, LineDoes}
@@ -40,7 +41,7 @@ use Rattle.sheets.proofs.reader.Inverse.{limit-read}
 use Rattle.sheets.proofs.reader.Walks.{Step, walk-end, walk-line}
 use Rattle.sheets.proofs.run.KnownLaws.{tabled-start, tabled-let}
 use Rattle.sheets.proofs.run.ListedLaws.{listed-start, listed-let}
-use Rattle.sheets.proofs.run.EntryLaws.{entries-none, entries-let}
+use Rattle.sheets.proofs.run.FixLaws.{noLets, letAt, rising-none, rising-line, rising-let, lined-start, lined-let, fixes-none, fixes-let}
 use Rattle.sheets.proofs.run.RunParts.{NotIs}
 use Rattle.sheets.proofs.run.StepLaws.{onwards, line-stops, given, let-step, answers-is}
 use Rattle.sheets.proofs.run.Stages.{Stage, Now}
@@ -65,6 +66,7 @@ first at x f d = record { at = at; line = 2; slots = replicate 96 x; words = rep
 
 pub runs-start : (s : List ℕ) (at : ℕ) (e : Ellipsoid) (rs : List Float) (d : List ℕ) (x : Slot) (f : List Float) → WithReadings rs (replicate 2940 (ofBits binary64 0)) f
     → (r : RunAnswer) (out′ : List ℕ) → RunsFrom s e rs d (first at x f d) r out′ → Runs s at e rs d r out′
+unfolding fixes
 runs-start s at e rs d x f hf r out′ h = record {
   is = λ size ls el st ee ek en un.
       h .is ls st (record {
@@ -76,9 +78,11 @@ runs-start s at e rs d x f hf r out′ h = record {
         surface = ee;
         tabled = subst (λ ps. Tabled ps (replicate 96 x) 0 rs) (sym ek) (tabled-start rs _);
         listed = listed-start _ rs f (length-replicate 96 x) (hf .is zeros .0) (hf .is zeros .1);
-        kept = subst (λ es. EntriesKept es (replicate 96 0) (replicate 96 0) f 0) (sym en) (entries-none f);
+        lets = noLets;
+        rising = rising-none;
+        lined = subst (λ ps. Lined ps (replicate 96 0) 0 noLets) (sym ek) (lined-start rs _);
+        kept = subst (λ es. FixesKept (fixes es) noLets (replicate 96 0) f 0) (sym en) (fixes-none noLets f 0);
         sums = zero-sum ∙ ap total (sym en);
-        few = omega (arith, ap shows en);
         count = ap (λ es. length (entryLines es)) (sym en);
         bound = omega arith;
         text = ap (λ es. laid (entryLines es) d) (sym en);
@@ -159,9 +163,12 @@ module _ {s : List ℕ} {e : Ellipsoid} {rs : List Float} {d : List ℕ} {h : St
             tabled = subst (λ z. Tabled (givenOn (h .line) (says .0) v ∷ st .scope .known) (set (h .slots) z y) z rs) (omega arith)
                 (tabled-let (st .scope .known) (h .slots) (h .n) rs (now .tabled) (omega (arith, few, now .listed .slots)) (says .0) (says .1) v y (ew ∙ sym (says .2)) eu (h .line));
             listed = rw (hg .words-are, hg .kinds-are) (listed-let (h .slots) rs (h .words) (h .kinds) (h .newest) (h .floats) (h .n) (now .listed) few y code kind ew (ek ∙ ap (λ z. kindCode (kindOf z)) (sym eu)) (21 * (h .n + 1)) (omega arith) g (an .kept) (subst (Lies g (21 * (h .n + 1))) (sym eu) lies) newest (hg .newest-are));
-            kept = rw (hg .kinds-are) (entries-let (st .entries) (h .shown) (h .kinds) (h .floats) (h .n) (now .kept) kind g (an .kept));
+            lets = letAt (now .lets) (h .n) (h .line);
+            rising = rising-let (now .lets) (h .n) (h .line) (now .rising);
+            lined = subst (λ ws. Lined (givenOn (h .line) (says .0) v ∷ st .scope .known) ws (h .n + 1) (letAt (now .lets) (h .n) (h .line))) (sym (hg .words-are ∙ ap (set (h .words) (h .n + 1)) (sym (says .2)))) (subst (λ z. Lined (givenOn (h .line) (says .0) v ∷ st .scope .known) (set (h .words) z (codeOf (says .0))) z (letAt (now .lets) (h .n) (h .line))) (omega arith)
+                (lined-let (st .scope .known) (h .words) (h .n) (now .lets) (now .lined) (omega (arith, few, now .listed .sizes .0)) (says .0) (says .1) v (h .line)));
+            kept = fixes-let (fixes (st .entries)) (now .lets) (h .shown) (h .floats) (h .n) (now .kept) (h .line) g (an .kept);
             sums = now .sums;
-            few = omega (arith, now .few);
             count = now .count;
             bound = omega (arith, now .bound);
             text = now .text;
@@ -171,12 +178,12 @@ module _ {s : List ℕ} {e : Ellipsoid} {rs : List Float} {d : List ℕ} {h : St
 
     module _ (head : LineHead) (eh : head ≡ lineHead s (h .at)) (y : WholeLine) (next : ℕ) (is : head ≡ LineHead.Whole y next) (high : h .line ≤ 96)
         (c : ℕ) (hc : Names y c) (j : ℕ) (hj : Search.Placed (h .words) (h .newest) c j) (x : Slot) (r : Evaluated) (shown : List ℕ) (sum : Float) (out : List ℕ) (hr : LineDoes s y j (getD (h .slots) j x .value) (h .floats) (h .shown) (h .sum) (h .out) (h .written) r shown sum out) where
-      whole-here : (ls : List Line) (st : State) → Now s e rs d h ls st → (l : Line) (m : ℕ) → readLine s (h .at) ≡ got l m → (next ≡ m) × Comes h d st l r shown sum out
+      whole-here : (ls : List Line) (st : State) (now : Now s e rs d h ls st) (l : Line) (m : ℕ) → readLine s (h .at) ≡ got l m → (next ≡ m) × Comes h (now .lets) d st l r shown sum out
       whole-here ls st now l m el =
           let (k, t, ek) = head-says s (h .at) head eh _ is in
           let same = limit-read (h .at) (got k next) l m (sym ek ∙ el) .0 in
           let kl : k ≡ l = cc in
-          (cc, subst (λ k. Comes h d st k r shown sum out) kl (whole-comes now high r shown sum out y k t c hc j hj x hr))
+          (cc, subst (λ k. Comes h (now .lets) d st k r shown sum out) kl (whole-comes now high r shown sum out y k t c hc j hj x hr))
 
       pub runs-whole-not : NotIs r → (a : RunAnswer) → a ≡ stoppedAt r (h .line) (h .written) → RunsFrom s e rs d h a out
       runs-whole-not m a ea = by-line a out (λ ls st now sp un.
@@ -199,9 +206,11 @@ module _ {s : List ℕ} {e : Ellipsoid} {rs : List Float} {d : List ℕ} {h : St
             surface = b .surface ∙ now .surface;
             tabled = subst (λ ps. Tabled ps (h .slots) (h .n) rs) (sym (b .known)) (now .tabled);
             listed = now .listed;
+            lets = now .lets;
+            rising = rising-line (now .lets) (h .n) (h .line) (now .rising);
+            lined = subst (λ ps. Lined ps (h .words) (h .n) (now .lets)) (sym (b .known)) (now .lined);
             kept = b .kept;
             sums = b .sums;
-            few = omega (arith, now .few, b .few);
             count = b .counted;
             bound = omega (arith, b .bound, now .bound, low);
             text = b .text;

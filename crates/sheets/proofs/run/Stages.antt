@@ -9,11 +9,12 @@ use Rattle.frames.specs.declared.Ellipsoid.{Ellipsoid}
 use Rattle.sheets.specs.declared.rows.value.Slot.{Slot}
 use Rattle.sheets.specs.Trees.{Line}
 use Rattle.sheets.specs.Entries.{entryLines, total}
+use Rattle.sheets.specs.Aparts.{fixes}
 use Rattle.sheets.specs.Machine.{State}
 use Rattle.sheets.specs.Answers.{laid}
 use Rattle.sheets.specs.code.reader.Reader.{formed, readLines}
 use Rattle.sheets.specs.code.run.Known.{Tabled, Listed}
-use Rattle.sheets.specs.code.run.Keeping.{shows, EntriesKept}
+use Rattle.sheets.specs.code.run.Keeping.{Rising, Lined, FixesKept}
 
 -- what the code holds before a line, which stands at a place
 pub record Stage : Type 0 where
@@ -30,7 +31,7 @@ pub record Stage : Type 0 where
   pub written : ℕ
   pub out : List ℕ
 
--- the lines ls are left, and what is held stands for the machine's state; d is what was lent for the text
+-- the lines ls are left, and what is held stands for the machine's state; d is what was lent for the text, and the names' lets stand on the lines `lets`
 pub record Now (s : List ℕ) (e : Ellipsoid) (rs : List Float) (d : List ℕ) (h : Stage) (ls : List Line) (st : State) : Type 0 where
   pub size : length d ≡ 24576
   pub left : ℕ
@@ -40,9 +41,11 @@ pub record Now (s : List ℕ) (e : Ellipsoid) (rs : List Float) (d : List ℕ) (
   pub surface : st .ellipsoid ≡ e
   pub tabled : Tabled (st .scope .known) (h .slots) (h .n) rs
   pub listed : Listed (h .slots) rs (h .words) (h .kinds) (h .newest) (h .floats) (h .n)
-  pub kept : EntriesKept (st .entries) (h .shown) (h .kinds) (h .floats) (h .n)
+  pub lets : ℕ → ℕ
+  pub rising : Rising lets (h .n) (h .line)
+  pub lined : Lined (st .scope .known) (h .words) (h .n) lets
+  pub kept : FixesKept (fixes (st .entries)) lets (h .shown) (h .floats) (h .n)
   pub sums : metres (h .sum) ≡ total (st .entries)
-  pub few : shows (st .entries) + 2 ≤ h .line
   pub count : h .written ≡ length (entryLines (st .entries))
   pub bound : h .written ≤ 223 * (h .line - 2)
   pub text : h .out ≡ laid (entryLines (st .entries)) d

@@ -1,5 +1,5 @@
 -- The text of a sheet within the grammar fits 24,576 bytes: 95 lines of at most 223. Assumes nothing.
-use mathlib.Core.Path.{_≡_, refl, sym, ap, _∙_}
+use mathlib.Core.Path.{_≡_, refl, sym, ap, _∙_, subst}
 use mathlib.Core.List.{List, [], _∷_, _++_, append-assoc, append-nil}
 use Prim.Native.Nat.{ℕ, zero, suc, _≤_, _+_, _*_, _/_, _%_}
 use native.Mathlib.Omega.{arith}
@@ -89,7 +89,7 @@ longer-entry s t e h w = omega (
 
 longer : (i : ℕ) (s t : State) (k : Writes) → Named k → Wrote i s k t → Longer s t
 longer i s t nothing h w = omega (arith, ap (λ es. length (entryLines es)) w)
-longer i s t (a-show v) h (x, w) = longer-entry s t (shown i v x) h w
+longer i s t (a-show v) h (g, e, w) = longer-entry s t (shown i g) (subst IsWord e h) w
 longer i s t a-total h w = longer-entry s t (summed (total (s .entries))) h w
 
 longer-step : (i : ℕ) (s : State) (l : Line) → IsLine l → Left (Longer s) (step i s l)

@@ -4,9 +4,10 @@ use native.Mathlib.Omega.{arith}
 use mathlib.Core.Path.{_≡_, refl, ap, subst, _∙_}
 use mathlib.Core.Bool.{Bool, true, false}
 use mathlib.Core.Option.{Option, none, some}
-use mathlib.Core.List.{List, []}
-use lib.ListN.{length, getD}
+use mathlib.Core.List.{List, [], _∷_}
 use lib.Ieee.{Float}
+use types.Run.{OneOf, miss}
+use denote.Enum.Declared.{tagOf}
 use borrow.Author.Tests.{eq-eqb, ne-eqb, le-leb, lt-leb}
 use Rattle.numbers.specs.Lengths.{metres}
 use Rattle.numbers.specs.declared.Length.{Length}
@@ -16,7 +17,7 @@ use Rattle.sheets.specs.declared.reader.lines.NameAt.{NameAt}
 use Rattle.sheets.specs.declared.reader.lines.WholeLine.{WholeLine}
 use Rattle.sheets.specs.declared.Evaluated.{Evaluated}
 use Rattle.sheets.specs.Kinds.{kindOf, kindCode}
-use Rattle.sheets.specs.Letters.{𝐥, held}
+use Rattle.sheets.specs.Letters.{𝐥, 𝐠, held}
 use Rattle.sheets.specs.Limits.{inLimit}
 use Rattle.sheets.specs.Entries.{plus}
 use Rattle.sheets.specs.Machine.{goes, met}
@@ -24,18 +25,19 @@ use Rattle.sheets.specs.code.run.Floats.{floatAt}
 use Rattle.sheets.specs.code.run.Known.{readingIndex, foundAt}
 use Rattle.sheets.specs.code.run.Writing.{Written, lineIf, room}
 use Rattle.sheets.specs.code.run.Keeping.{keep}
+use Rattle.sheets.specs.code.run.Standing.{apartLine}
 use Rattle.sheets.specs.code.run.Evaluating.{evaluated}
 use Rattle.sheets.specs.code.run.Wholes.{Names, TestedIf, TestedLine, KeptIf, Shown, ShownAs, TotalLine, Does, LineDoes}
-use Rattle.sheets.proofs.run.EntryLaws.{keep-size, keep-count}
 use Rattle.sheets.proofs.run.RunParts.{NotIs, not-is}
+use Rattle.sheets.proofs.reader.lines.WholeLine as wholes
 
 -- ---- the word of a show
 
 pub names-show : (line : WholeLine) (name : NameAt) → line ≡ WholeLine.Show name → Names line (name .code)
 names-show line name e = record { is = λ other o. let i : name ≡ other = cc in ap (λ (z : NameAt). z .code) i }
 
-pub names-other : (line : WholeLine) (c : ℕ) → line ≡ WholeLine.Total → Names line c
-names-other line c e = record { is = λ name o. let z : _≡_ {A = ℕ} 0 1 = cc in absurd (omega arith) }
+pub names-other : (line : WholeLine) (c : ℕ) → OneOf (1 ∷ 2 ∷ []) (tagOf wholes.the-type line) → Names line c
+names-other line c h = record { is = λ name o. absurd (miss (1 ∷ 2 ∷ []) 0 tt (subst (λ line. OneOf (1 ∷ 2 ∷ []) (tagOf wholes.the-type line)) o h)) }
 
 -- ---- a tested line
 
@@ -76,7 +78,7 @@ module _ (s : List ℕ) (name : NameAt) (v : Value) (j : ℕ) (js : List ℕ) (t
   unfolding Shown KeptIf
   show-out n = record { is = (h, rw (tested-not s (name .from) (name .end) v out written r d h n .2) (refl, refl)) }
 
-  pub show-in : (kind m : ℕ) → r ≡ Evaluated.Is kind m → (js′ : List ℕ) → js′ ≡ keep js j → (l : Length) → l ≡ metres t → (u : Length) → u ≡ plus l (held 𝐥 v) → (t′ : Float) → t′ ≡ u .0 → ShownAs s name (some v) j js t out written (Evaluated.Is kind m) js′ t′ d
+  pub show-in : (kind m : ℕ) → r ≡ Evaluated.Is kind m → (js′ : List ℕ) → js′ ≡ keep js j (held 𝐠 v) → (l : Length) → l ≡ metres t → (u : Length) → u ≡ plus l (held 𝐥 v) → (t′ : Float) → t′ ≡ u .0 → ShownAs s name (some v) j js t out written (Evaluated.Is kind m) js′ t′ d
   unfolding Shown KeptIf
   show-in kind m e js′ ej l el u eu t′ et = record { is = (subst (λ r. TestedLine s (name .from) (name .end) v out written r d) e h, rw (tested-is s (name .from) (name .end) v out written r d h kind m e .1) (ej, ap metres et ∙ eu ∙ ap (λ l. plus l (held 𝐥 v)) el)) }
 
@@ -106,17 +108,6 @@ module _ (s : List ℕ) (line : WholeLine) (j : ℕ) (v : Value) (f : List Float
   unfolding Does
   does-total e l el h ej et = rw e (record { is = (subst (λ l. TotalLine l out written r d) el h, ej, et) })
 
--- at most one place more is kept
-shown-count : (s : List ℕ) (name : NameAt) (o : Option Value) (j : ℕ) (js : List ℕ) (t : Float) (out : List ℕ) (written : ℕ) (r : Evaluated) (js′ : List ℕ) (t′ : Float) (d : List ℕ) → Shown s name o j js t out written r js′ t′ d → length js ≡ 96 → (length js′ ≡ 96) × (getD js′ 0 0 ≤ getD js 0 0 + 1)
-unfolding Shown KeptIf
-shown-count s name none j js t out written r js′ t′ d h l = rw (h .1) (l, omega arith)
-shown-count s name (some v) j js t out written r js′ t′ d h l = go (inLimit v) (h .1)
-  where
-    go : (b : Bool) → KeptIf b v j js t js′ t′ → (length js′ ≡ 96) × (getD js′ 0 0 ≤ getD js 0 0 + 1)
-    go true (ej, et) = rw ej (keep-size js j ∙ l, omega (arith, keep-count js j (omega (arith, l))))
-    go false (ej, et) = rw ej (l, omega arith)
-
-pub does-count : (s : List ℕ) (line : WholeLine) (j : ℕ) (v : Value) (f : List Float) (js : List ℕ) (t : Float) (out : List ℕ) (written : ℕ) (r : Evaluated) (js′ : List ℕ) (t′ : Float) (d : List ℕ) → LineDoes s line j v f js t out written r js′ t′ d → length js ≡ 96 → (length js′ ≡ 96) × (getD js′ 0 0 ≤ getD js 0 0 + 1)
-unfolding Does
-does-count s (WholeLine.Show name) j v f js t out written r js′ t′ d h l = shown-count s name (foundAt v f (name .code) j) j js t out written r js′ t′ d (h .is .is) l
-does-count s WholeLine.Total j v f js t out written r js′ t′ d h l = rw (h .is .1) (l, omega arith)
+  pub does-apart : (x : Float) → line ≡ WholeLine.Apart x → r ≡ apartLine x f js written → js′ ≡ js → t′ ≡ t → d ≡ out → LineDoes s line j v f js t out written r js′ t′ d
+  unfolding Does
+  does-apart x e er ej et ed = rw e (record { is = (er, ej, et, ed) })

@@ -84,6 +84,7 @@ fn whole_kind(
     match line {
         WholeLine::Show(name) => known_kind(name.code, next, words, codes, newest),
         WholeLine::Total => LineKind::Is(0, 2, next),
+        WholeLine::Apart(_) => LineKind::Is(0, 254, next),
     }
 }
 

@@ -5,12 +5,14 @@ use crate::reader::bytes::stands;
 use crate::reader::bytes::word;
 use crate::reader::expr::Read;
 use crate::reader::expr::expr;
+use crate::reader::num::DoubleRead;
+use crate::reader::num::unsigned;
 use crate::reader::words;
 ghost use mathlib.Core.Path.{_≡_};
 ghost use Prim.Native.Nat.{_+_};
 ghost use lib.Dec.{leb};
-ghost use Rattle.sheets.specs.code.reader.Reader.{readWord, opening, spaced, first, one, fromRows, wholeRows, readLine};
-ghost use Rattle.sheets.specs.code.reader.Views.{place, closed, shortEnd, coded, namedAt, headTold, bareHead, lineHead};
+ghost use Rattle.sheets.specs.code.reader.Reader.{readWord, readUnsigned, opening, spaced, first, one, fromRows, wholeRows, readLine};
+ghost use Rattle.sheets.specs.code.reader.Views.{place, closed, shortEnd, coded, unsignedDouble, namedAt, headTold, bareHead, lineHead};
 
 // A line's word: its code, and where it stands, from its first byte to the place after it.
 pub struct NameAt {
@@ -25,10 +27,11 @@ pub(crate) enum NameRead {
     Not,
 }
 
-// A line that is read whole: which it is, with its word where it has one.
+// A line that is read whole: which it is, with its word where it has one, or its NUM as a double.
 pub enum WholeLine {
     Show(NameAt),
     Total,
+    Apart(f64),
 }
 
 // What a line is: a let, with its word and the place of its expression; or any other line, and the place of the next one.
@@ -127,6 +130,25 @@ fn first_word(s: &[u8], at: usize) -> NameRead
     NameRead::Not
 }
 
+// A space, a NUM without a minus, and the end of the line: the NUM as a double, and the place of the next line.
+fn one_unsigned(s: &[u8], at: usize) -> DoubleRead
+    ensures { λ r. ⌜ r ≡ unsignedDouble (one readUnsigned (λ q. q) (now (s .entry)) at) ⌝ }
+{
+    let b = byte(s, at);
+    if b == 32 {
+        let q = unsigned(s, at + 1);
+        let DoubleRead::Is(x, n) = q else {
+            return DoubleRead::Not;
+        };
+        let c = closing(s, n);
+        return match c {
+            Read::At(next) => DoubleRead::Is(x, next),
+            Read::Bad => DoubleRead::Not,
+        };
+    }
+    DoubleRead::Not
+}
+
 // A line without parts, from the place after the word that opens it.
 fn bare(s: &[u8], at: usize, line: WholeLine) -> LineHead
     ensures { λ r. ⌜ r ≡ bareHead line (closed (now (s .entry)) at) ⌝ }
@@ -151,6 +173,13 @@ fn whole_head(s: &[u8], code: u64, at: usize) -> LineHead
             }
         }
         words::TOTAL => bare(s, at, WholeLine::Total),
+        words::APART => {
+            let r = one_unsigned(s, at);
+            match r {
+                DoubleRead::Is(least, next) => LineHead::Whole(WholeLine::Apart(least), next),
+                DoubleRead::Not => LineHead::Bad,
+            }
+        }
         _ => LineHead::Bad,
     }
 }

@@ -5,8 +5,8 @@ use numbers::float::decimal;
 ghost use mathlib.Core.Path.{_≡_};
 ghost use Prim.Native.Nat.{_<_, _≤_, _^_};
 ghost use Rattle.sheets.specs.code.reader.Codes.{digit};
-ghost use Rattle.sheets.specs.code.reader.Reader.{chars, readWhole, readNum};
-ghost use Rattle.sheets.specs.code.reader.Views.{digitsRead, counted, doubled};
+ghost use Rattle.sheets.specs.code.reader.Reader.{chars, readWhole, readNum, readUnsigned};
+ghost use Rattle.sheets.specs.code.reader.Views.{digitsRead, counted, doubled, unsignedDouble};
 
 // Some digits: their number, how many there are, and the place after them.
 pub struct DigitsRead {
@@ -131,4 +131,15 @@ pub fn double(s: &[u8], at: usize) -> DoubleRead
     let t = tens(x.behind);
     let v = decimal(x.minus, x.digits, t);
     DoubleRead::Is(v, x.end)
+}
+
+// The same, where the NUM has no minus.
+pub fn unsigned(s: &[u8], at: usize) -> DoubleRead
+    ensures { λ r. ⌜ r ≡ unsignedDouble (readUnsigned (now (s .entry)) at) ⌝ }
+{
+    let b = byte(s, at);
+    if b == 45 {
+        return DoubleRead::Not;
+    }
+    double(s, at)
 }

@@ -12,6 +12,8 @@ pub const SHOW: u64 = 973937;
 
 pub const TOTAL: u64 = 38270444;
 
+pub const APART: u64 = 2686664;
+
 // The operators, in the kind table's order.
 pub const DEG: u64 = 5668;
 

@@ -20,7 +20,7 @@ ghost use Prim.Native.Nat.{_+_, _≤_};
 ghost use Rattle.sheets.specs.Kinds.{number, angle, len, geocentric, geodetic, vector, frame};
 ghost use Rattle.sheets.specs.Limits.{inLimit};
 ghost use Rattle.sheets.specs.code.rows.KindCodes.{kindAt};
-ghost use Rattle.sheets.specs.code.run.Floats.{vecAt, matAt, valueAt, lay, byRows, frameFloats, Copied};
+ghost use Rattle.sheets.specs.code.run.Floats.{vecAt, matAt, positionAt, valueAt, lay, byRows, frameFloats, Copied};
 
 // The value of each kind whose floats begin at a place.
 pub fn number_at(floats: &[f64; 2940], top: usize) -> Value
@@ -44,16 +44,23 @@ pub fn length_at(floats: &[f64; 2940], top: usize) -> Value
     Value::Metres(Length(floats[top]))
 }
 
+// The position whose floats begin at a place.
+pub fn position_at(floats: &[f64; 2940], top: usize) -> GeocentricPosition
+    requires { ⌜ top + 21 ≤ 2940 ⌝ }
+    ensures { λ r. ⌜ r ≡ positionAt (now (floats .entry)) top ⌝ }
+{
+    GeocentricPosition {
+        x: Length(floats[top]),
+        y: Length(floats[top + 1]),
+        z: Length(floats[top + 2]),
+    }
+}
+
 pub fn geocentric_at(floats: &[f64; 2940], top: usize) -> Value
     requires { ⌜ top + 21 ≤ 2940 ⌝ }
     ensures { λ r. ⌜ r ≡ valueAt geocentric (now (floats .entry)) top ⌝ }
 {
-    let v = vec_at(floats, top);
-    Value::Geocentric(GeocentricPosition {
-        x: Length(v.x),
-        y: Length(v.y),
-        z: Length(v.z),
-    })
+    Value::Geocentric(position_at(floats, top))
 }
 
 pub fn geodetic_at(floats: &[f64; 2940], top: usize) -> Value

@@ -79,7 +79,7 @@ fn stopped(r: Evaluated, line: usize, written: usize) -> RunAnswer
 
 // The lines from line 2, which stands at `from`.
 // The table of names stays here; slot 0 stays empty. `words`, `kinds` and `floats` have its words, kinds and values, each at its slot's place, for the evaluator; `newest` is that of newest.rt.
-// `shown` has the places of what was shown, and a place is never given to another name: so the kind and the floats of each name that was shown stay known. Of a reading only its kind does: at place 0 stands that of a number. `sum` is the sum of the lengths shown.
+// `shown` has 1 at the place of each name shown whose value is a g, and a place is never given to another name: so the position stays where it lies among the floats. `sum` is the sum of the lengths shown.
 pub fn run_lines(s: &[u8], from: usize, e: Ellipsoid, readings: &[f64], out: &mut [u8]) -> RunAnswer
     ensures { λ r. ⌜ Runs (now (s .entry)) from e (now (readings .entry)) (now (out .entry)) r (now (out .exit)) ⌝ }
 {

@@ -8,6 +8,7 @@ use crate::rows::limits::in_limit;
 use crate::rows::limits::is_near;
 use crate::rows::value::Slot;
 use crate::rows::value::kind_of;
+use crate::run::apart::stand_apart;
 use crate::run::readings::reading_index;
 use crate::run::text::output_line;
 use crate::run::text::total_line;
@@ -15,11 +16,11 @@ use numbers::Length;
 ghost use mathlib.Core.Path.{_≡_};
 ghost use mathlib.Core.Option.{some};
 ghost use Prim.Native.Nat.{_≤_};
-ghost use lib.ListN.{getD};
-ghost use Rattle.sheets.specs.Letters.{𝐥, held};
+ghost use Rattle.sheets.specs.Letters.{𝐥, 𝐠, held};
 ghost use Rattle.sheets.specs.Entries.{plus};
 ghost use Rattle.sheets.specs.code.run.Keeping.{keep};
 ghost use Rattle.sheets.specs.code.run.Known.{foundAt};
+ghost use Rattle.sheets.specs.code.run.Standing.{apartLine};
 ghost use Rattle.sheets.specs.code.run.Wholes.{Names, TestedLine, ShownAs, TotalLine, LineDoes};
 
 // The code of a show's word; of another line it does not matter. The slot at the word's place is looked up by the caller, which holds the table: it cannot be lent.
@@ -51,14 +52,15 @@ fn tested_line(
     Evaluated::Stops(7)
 }
 
-// The place of what is shown is kept: `shown` has the number of these places first.
-fn keep(shown: &mut [u8; 96], place: usize)
-    requires { ⌜ (getD (now shown) 0 0 ≤ 94) × (place ≤ 95) ⌝ }
-    ensures { λ _. ⌜ now (shown .exit) ≡ keep (now (shown .entry)) place ⌝ }
+// The place of a value that is shown is kept, where it is a g.
+fn keep(shown: &mut [u8; 96], place: usize, v: Value)
+    requires { ⌜ place ≤ 95 ⌝ }
+    ensures { λ _. ⌜ now (shown .exit) ≡ keep (now (shown .entry)) place (held 𝐠 v) ⌝ }
 {
-    let count = shown[0] + 1;
-    shown[count as usize] = place as u8;
-    shown[0] = count;
+    let Value::Geocentric(_) = v else {
+        return;
+    };
+    shown[place] = 1;
 }
 
 // A sum with a value behind it: a length is added, and no other value counts.
@@ -71,7 +73,7 @@ fn plus(sum: Length, v: Value) -> Length
     sum.add(x)
 }
 
-// A show of a value, which stands at a place among the names: its place is kept, and a length goes into the sum.
+// A show of a value, which stands at a place among the names: the place of a g is kept, and a length goes into the sum.
 fn show_value(
     s: &[u8],
     name: NameAt,
@@ -82,14 +84,14 @@ fn show_value(
     out: &mut [u8],
     written: usize,
 ) -> Evaluated
-    requires { ⌜ (getD (now shown) 0 0 ≤ 94) × (place ≤ 95) ⌝ }
+    requires { ⌜ place ≤ 95 ⌝ }
     ensures { λ r. ⌜ ShownAs (now (s .entry)) name (some v) place (now (shown .entry)) (now (sum .entry)) (now (out .entry)) written r (now (shown .exit)) (now (sum .exit)) (now (out .exit)) ⌝ }
 {
     let r = tested_line(s, name.from, name.end, v, out, written);
     let Evaluated::Is(kind, n) = r else {
         return r;
     };
-    keep(shown, place);
+    keep(shown, place, v);
     *sum = plus(Length::from_metres(*sum), v).as_metres();
     Evaluated::Is(kind, n)
 }
@@ -106,7 +108,7 @@ fn show(
     out: &mut [u8],
     written: usize,
 ) -> Evaluated
-    requires { ⌜ (getD (now shown) 0 0 ≤ 94) × (j ≤ 95) ⌝ }
+    requires { ⌜ j ≤ 95 ⌝ }
     ensures { λ r. ⌜ ShownAs (now (s .entry)) name (foundAt (x .value) (now (floats .entry)) (name .code) j) j (now (shown .entry)) (now (sum .entry)) (now (out .entry)) written r (now (shown .exit)) (now (sum .exit)) (now (out .exit)) ⌝ }
 {
     let mut v = x.value;
@@ -131,6 +133,19 @@ fn total(sum: Length, out: &mut [u8], written: usize) -> Evaluated
     Evaluated::Stops(7)
 }
 
+// An apart: its number is tested as an n, and then what was shown.
+fn apart(least: f64, floats: &[f64; 2940], shown: &[u8; 96], written: usize) -> Evaluated
+    ensures { λ r. ⌜ r ≡ apartLine least (now (floats .entry)) (now (shown .entry)) written ⌝ }
+{
+    if is_near(least) {
+        if stand_apart(least, floats, shown) {
+            return Evaluated::Is(254, written);
+        }
+        return Evaluated::Stops(9);
+    }
+    Evaluated::Stops(7)
+}
+
 // A line, where its word stands at the place j and x is the slot there; where it names none both are left aside.
 pub fn whole_line(
     s: &[u8],
@@ -143,11 +158,12 @@ pub fn whole_line(
     out: &mut [u8],
     written: usize,
 ) -> Evaluated
-    requires { ⌜ (getD (now shown) 0 0 ≤ 94) × (j ≤ 95) ⌝ }
+    requires { ⌜ j ≤ 95 ⌝ }
     ensures { λ r. ⌜ LineDoes (now (s .entry)) line j (x .value) (now (floats .entry)) (now (shown .entry)) (now (sum .entry)) (now (out .entry)) written r (now (shown .exit)) (now (sum .exit)) (now (out .exit)) ⌝ }
 {
     match line {
         WholeLine::Show(name) => show(s, name, j, x, floats, shown, sum, out, written),
         WholeLine::Total => total(Length::from_metres(*sum), out, written),
+        WholeLine::Apart(least) => apart(least, floats, shown, written),
     }
 }

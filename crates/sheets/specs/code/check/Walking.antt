@@ -9,7 +9,7 @@ use mir.Val.{hasKey}
 use lib.ListN.{length, getD, take}
 use Rattle.frames.specs.declared.Ellipsoid.{Ellipsoid}
 use Rattle.sheets.specs.Text.{Word}
-use Rattle.sheets.specs.Trees.{Expr, Exprs, Line, let-line, show-line, total-line, numbered}
+use Rattle.sheets.specs.Trees.{Expr, Exprs, Line, let-line, show-line, total-line, apart-line, numbered}
 use Rattle.sheets.specs.Grammar.{IsWord}
 use Rattle.sheets.specs.code.reader.Codes.{codeOf}
 use Rattle.sheets.specs.code.reader.Reader.{Got, got, readArgs, readExpr, readHead, Form, formed, badLine, readLines}
@@ -91,6 +91,7 @@ abbrev pub lineWord : Line → Word
 lineWord (let-line w x) = w
 lineWord (show-line w) = w
 lineWord total-line = []
+lineWord (apart-line q) = []
 
 -- the lines passed stand for the words that the scope knows; the line is line i, whatever i is
 pub record ForScope (words codes newest : List ℕ) (P : ℕ → Scope Kind → Type 0) : Type 0 where

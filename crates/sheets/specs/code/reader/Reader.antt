@@ -7,7 +7,7 @@ use mathlib.Core.List.{List, [], _∷_}
 use lib.Dec.{eqb, leb}
 use lib.ListN.{length, getD}
 use Rattle.sheets.specs.Text.{Word, ascii}
-use Rattle.sheets.specs.Trees.{Num, Expr, Exprs, word-expr, num-expr, form-expr, nil, _▸_, Line, let-line, show-line, total-line, Head, wgs84, custom, Sheet}
+use Rattle.sheets.specs.Trees.{Num, Unsigned, Expr, Exprs, word-expr, num-expr, form-expr, nil, _▸_, Line, let-line, show-line, total-line, apart-line, Head, wgs84, custom, Sheet}
 use Rattle.sheets.specs.Grammar.{allowed, after}
 pub use Rattle.sheets.specs.Grammar.{Form, formed, badLine}
 use Rattle.sheets.specs.code.reader.Codes.{letter, wordChar, digit, codeFrom, codeOf}
@@ -62,6 +62,10 @@ signIf false s at = readWhole false s at
 
 unfoldable pub readNum : List ℕ → ℕ → Got Num
 readNum s at = signIf (eqb (getD s at 0) 45) s at
+
+-- a NUM without a minus
+unfoldable pub readUnsigned : List ℕ → ℕ → Got Unsigned
+readUnsigned s at = readWhole false s at then (λ q n. got (record { whole = q .whole; part = q .part }) n)
 
 -- ---- expressions
 
@@ -171,6 +175,7 @@ unfoldable pub wholeRows : List (Row Begun)
 wholeRows =
     row "show" (one readWord (λ w. whole (show-line w)))
     ∷ row "total" (closing (whole total-line))
+    ∷ row "apart" (one readUnsigned (λ q. whole (apart-line q)))
     ∷ []
 
 unfoldable pub lineRows : List (Row Begun)
@@ -220,5 +225,5 @@ readSheet s = sheetStep (readHead s) (readLines 95 2 0 s)
 
 -- `unfolding reading` under a theorem's signature has the reader computed.
 unfoldable pub reading : Bool
-unfolding letter wordChar digit codeFrom _then_ charsIf chars wordIf readWord partEnd partIf wholeStep readWhole signIf readNum argsStep readArgs orNum readLeaf exprStep readExpr orElse opening spaced closing limit more readThe _or_ fromRows readRows headRows readHead wholeRows lineRows readBegun rest readLine allowed after permitted _thenᶠ_ linesStep readLines sheetStep readSheet
+unfolding letter wordChar digit codeFrom _then_ charsIf chars wordIf readWord partEnd partIf wholeStep readWhole signIf readNum readUnsigned argsStep readArgs orNum readLeaf exprStep readExpr orElse opening spaced closing limit more readThe _or_ fromRows readRows headRows readHead wholeRows lineRows readBegun rest readLine allowed after permitted _thenᶠ_ linesStep readLines sheetStep readSheet
 reading = true

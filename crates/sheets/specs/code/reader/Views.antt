@@ -7,7 +7,7 @@ use mathlib.Core.List.{List, [], _∷_}
 use lib.Dec.{eqb, leb}
 use lib.ListN.{length, getD, drop}
 use Rattle.sheets.specs.Text.{Word}
-use Rattle.sheets.specs.Trees.{Num, decimalFrom, numDigits, Line, let-line, show-line, total-line, Head, wgs84, custom, Sheet}
+use Rattle.sheets.specs.Trees.{Num, Unsigned, signless, decimalFrom, numDigits, Line, let-line, show-line, total-line, apart-line, Head, wgs84, custom, Sheet}
 use Rattle.sheets.specs.code.reader.Codes.{codeOf}
 use Rattle.sheets.specs.code.reader.Reader.{Got, none, got, readWord, opening, closing, limit, fromRows, Begun, let-word, whole, lineRows, Form, formed, badLine}
 use Rattle.sheets.specs.Table.{when}
@@ -80,10 +80,17 @@ unfoldable pub counted : Got Num → NumRead
 counted none = NumRead.Not
 counted (got q n) = NumRead.Is (numeralOf q n)
 
--- a NUM by its double
-unfoldable pub doubled : Got Num → DoubleRead
-doubled none = DoubleRead.Not
-doubled (got q n) = DoubleRead.Is (numValue q) n
+-- what is read as a NUM by its double
+unfoldable pub doubledBy : {A : Type 0} → (A → Num) → Got A → DoubleRead
+doubledBy f none = DoubleRead.Not
+doubledBy f (got q n) = DoubleRead.Is (numValue (f q)) n
+
+abbrev pub doubled : Got Num → DoubleRead
+doubled o = doubledBy (λ q. q) o
+
+-- a NUM without a minus
+abbrev pub unsignedDouble : Got Unsigned → DoubleRead
+unsignedDouble o = doubledBy signless o
 
 -- ---- lines
 
@@ -101,6 +108,7 @@ headTold n none = LineHead.Bad
 headTold n (got (let-word w) m) = LineHead.Let (nameAt w (n + 1)) m
 headTold n (got (whole (show-line w)) m) = LineHead.Whole (WholeLine.Show (nameAt w (n + 1))) m
 headTold n (got (whole total-line) m) = LineHead.Whole WholeLine.Total m
+headTold n (got (whole (apart-line q)) m) = LineHead.Whole (WholeLine.Apart (numValue (signless q))) m
 headTold n (got (whole (let-line w x)) m) = LineHead.Bad
 
 -- a line without parts, by what was read of its end
@@ -120,6 +128,7 @@ lineHead s at = headOpened s (opening s at)
 abbrev pub WholeIn : List ℕ → WholeLine → Line → Type 0
 WholeIn s (WholeLine.Show name) l = (w : Word) × (readWord s (name .from) ≡ got w (name .end)) × (codeOf w ≡ name .code) × (l ≡ show-line w)
 WholeIn s WholeLine.Total l = l ≡ total-line
+WholeIn s (WholeLine.Apart x) l = (q : Unsigned) × (numValue (signless q) ≡ x) × (l ≡ apart-line q)
 
 -- line 1: its two numbers as doubles, where it has them, and the place of the next line
 unfoldable pub headOf : Got Head → HeadRead

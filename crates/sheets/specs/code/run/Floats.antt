@@ -7,6 +7,7 @@ use lib.ListN.{length, getD, set}
 use lib.Ieee.{Float, nan}
 use Rattle.numbers.specs.declared.Vec3.{Vec3}
 use Rattle.numbers.specs.declared.Mat33.{Mat33}
+use Rattle.frames.specs.declared.GeocentricPosition.{GeocentricPosition}
 use Rattle.frames.specs.declared.LocalFrame.{LocalFrame}
 use Rattle.sheets.specs.declared.Value.{Value}
 use Rattle.sheets.specs.declared.Value.the-variants.{Number, Radians, Metres, Geocentric, Geodetic, Vector, Frame}
@@ -25,12 +26,15 @@ vecAt f i = record { x = floatAt f i; y = floatAt f (i + 1); z = floatAt f (i + 
 abbrev pub matAt : List Float → ℕ → Mat33
 matAt f i = record { r0 = vecAt f i; r1 = vecAt f (i + 3); r2 = vecAt f (i + 6) }
 
+abbrev pub positionAt : List Float → ℕ → GeocentricPosition
+positionAt f i = record { x = record { 0 = floatAt f i }; y = record { 0 = floatAt f (i + 1) }; z = record { 0 = floatAt f (i + 2) } }
+
 -- the value of a kind whose floats begin at a place
 unfoldable pub valueAt : Kind → List Float → ℕ → Value
 valueAt number f i = Number (floatAt f i)
 valueAt angle f i = Radians (record { 0 = floatAt f i })
 valueAt len f i = Metres (record { 0 = floatAt f i })
-valueAt geocentric f i = Geocentric (record { x = record { 0 = floatAt f i }; y = record { 0 = floatAt f (i + 1) }; z = record { 0 = floatAt f (i + 2) } })
+valueAt geocentric f i = Geocentric (positionAt f i)
 valueAt geodetic f i = Geodetic (record { hp = record { 0 = vecAt f i }; height = record { 0 = floatAt f (i + 3) } })
 valueAt (vector o) f i = Vector (record { x = record { 0 = floatAt f i }; y = record { 0 = floatAt f (i + 1) }; z = record { 0 = floatAt f (i + 2) }; orientation = o })
 valueAt (frame o) f i = Frame (record { origin = vecAt f i; «dir_rm» = matAt f (i + 3); «inv_rm» = matAt f (i + 12); orientation = o })

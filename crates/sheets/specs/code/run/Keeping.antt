@@ -1,40 +1,45 @@
--- What the run keeps of what was shown, by show: its place among the names, 0 for a reading. The kind and the floats of a name then stand at its place; of a reading the kind alone is kept, that of a number.
+-- What the run keeps of the g values shown: 1 at the place of each name. The position of a name lies among the floats at its place.
 -- No part of what must be believed: they only tie the code to the machine.
-use Prim.Native.Nat.{ℕ, suc, _+_, _*_, _≤_}
+use Prim.Native.Nat.{ℕ, _*_, _<_, _≤_}
 use mathlib.Core.Path.{_≡_}
-use mathlib.Core.List.{List, [], _∷_}
+use mathlib.Core.List.{List}
+use mathlib.Core.Option.{Option, none, some}
 use lib.ListN.{length, getD, set}
 use lib.Ieee.{Float}
+use Rattle.frames.specs.declared.GeocentricPosition.{GeocentricPosition}
 use Rattle.sheets.specs.declared.Value.{Value}
-use Rattle.sheets.specs.Kinds.{number, kindOf, kindCode}
-use Rattle.sheets.specs.Entries.{Entry, shown, summed}
-use Rattle.sheets.specs.code.run.Floats.{Lies}
+use Rattle.sheets.specs.Text.{Word}
+use Rattle.sheets.specs.Grammar.{IsWord}
+use Rattle.sheets.specs.Names.{Known, letLine}
+use Rattle.sheets.specs.Aparts.{Fix}
+use Rattle.sheets.specs.Admitted.{In}
+use Rattle.sheets.specs.code.reader.Codes.{codeOf}
+use Rattle.sheets.specs.code.check.Newest.{placeFrom}
+use Rattle.sheets.specs.code.run.Floats.{positionAt}
 
--- a list of places has their number first; one place more
-abbrev pub keep : List ℕ → ℕ → List ℕ
-keep js j = let m = getD js 0 0 + 1 in set (set js m j) 0 m
+-- the place j of a value that is shown, where it is a g
+abbrev pub keep : List ℕ → ℕ → Option GeocentricPosition → List ℕ
+keep js j none = js
+keep js j (some p) = set js j 1
 
--- j is the place of what shows this value, among n names
-pub record EntryKept (kinds : List ℕ) (f : List Float) (n j : ℕ) (x : Value) : Type 0 where
+-- By the places of n names, the lines of the lets that gave them: each comes after those of the places before it, and all come before line i. A reading's place and line are 0.
+pub record Rising (lets : ℕ → ℕ) (n i : ℕ) : Type 0 where
+  pub reading : lets 0 ≡ 0
+  pub before : (j : ℕ) → j ≤ n → lets j < i
+  pub each : (j k : ℕ) → j < k → k ≤ n → lets j < lets k
+
+-- they are those of the known words ps
+pub record Lined (ps : Known Value) (words : List ℕ) (n : ℕ) (lets : ℕ → ℕ) : Type 0 where
+  pub is : (w : Word) → IsWord w → letLine w ps ≡ lets (placeFrom words n (codeOf w))
+
+-- the name at the place j is that of a g value shown
+pub record FixAt (lets : ℕ → ℕ) (f : List Float) (n j : ℕ) (x : Fix) : Type 0 where
   pub few : j ≤ n
-  pub kind : getD kinds j 0 ≡ kindCode (kindOf x)
-  pub lies : 1 ≤ j → Lies f (21 * j) x
+  pub line : lets j ≡ x .line
+  pub lies : positionAt f (21 * j) ≡ x .position
 
--- how many shows there are among the entries
-abbrev pub shows : List Entry → ℕ
-shows [] = 0
-shows (shown l w x ∷ es) = suc (shows es)
-shows (summed t ∷ es) = shows es
-
--- the places of what the shows among the entries show stand in the list, the first one's at i
-unfoldable pub KeptFrom : ℕ → List Entry → List ℕ → List ℕ → List Float → ℕ → Type 0
-KeptFrom i [] js kinds f n = Unit {0}
-KeptFrom i (shown l w x ∷ es) js kinds f n = EntryKept kinds f n (getD js i 0) x × KeptFrom (suc i) es js kinds f n
-KeptFrom i (summed t ∷ es) js kinds f n = KeptFrom i es js kinds f n
-
--- and at place 0 stands the kind of a reading, a number
-pub record EntriesKept (es : List Entry) (js kinds : List ℕ) (f : List Float) (n : ℕ) : Type 0 where
+-- the places kept are exactly those of the g values shown
+pub record FixesKept (fs : List Fix) (lets : ℕ → ℕ) (js : List ℕ) (f : List Float) (n : ℕ) : Type 0 where
   pub size : length js ≡ 96
-  pub count : getD js 0 0 ≡ shows es
-  pub places : KeptFrom 1 es js kinds f n
-  pub reading : getD kinds 0 0 ≡ kindCode number
+  pub kept : (x : Fix) → In x fs → (j : ℕ) × FixAt lets f n j x × (getD js j 0 ≡ 1)
+  pub from : (j : ℕ) → getD js j 0 ≡ 1 → (x : Fix) × In x fs × FixAt lets f n j x

@@ -15,10 +15,11 @@ use Rattle.sheets.specs.declared.reader.lines.WholeLine.{WholeLine}
 use Rattle.sheets.specs.declared.Evaluated.{Evaluated}
 use Rattle.sheets.specs.Text.{ascii}
 use Rattle.sheets.specs.Kinds.{kindOf, kindCode}
-use Rattle.sheets.specs.Letters.{𝐥, held}
+use Rattle.sheets.specs.Letters.{𝐥, 𝐠, held}
 use Rattle.sheets.specs.Limits.{inLimit}
 use Rattle.sheets.specs.Entries.{plus}
 use Rattle.sheets.specs.code.run.Keeping.{keep}
+use Rattle.sheets.specs.code.run.Standing.{apartLine}
 use Rattle.sheets.specs.code.run.Known.{foundAt}
 use Rattle.sheets.specs.code.run.Writing.{Written, lineIf, room}
 
@@ -34,9 +35,9 @@ TestedIf false s from end v out written r out′ = (r ≡ Evaluated.Stops 7) × 
 pub record TestedLine (s : List ℕ) (from end : ℕ) (v : Value) (out : List ℕ) (written : ℕ) (r : Evaluated) (out′ : List ℕ) : Type 0 where
   pub is : TestedIf (inLimit v) s from end v out written r out′
 
--- the place j of a value that is shown is kept, and a length goes into the sum, which has t metres
+-- the place j of a g that is shown is kept, and a length goes into the sum, which has t metres
 unfoldable pub KeptIf : Bool → Value → ℕ → List ℕ → Float → List ℕ → Float → Type 0
-KeptIf true v j js t js′ t′ = (js′ ≡ keep js j) × (metres t′ ≡ plus (metres t) (held 𝐥 v))
+KeptIf true v j js t js′ t′ = (js′ ≡ keep js j (held 𝐠 v)) × (metres t′ ≡ plus (metres t) (held 𝐥 v))
 KeptIf false v j js t js′ t′ = (js′ ≡ js) × (t′ ≡ t)
 
 -- a show of what was found at the place j
@@ -55,6 +56,7 @@ TotalLine t out written r out′ = TestedLine (ascii "total") 0 5 (Metres t) out
 unfoldable pub Does : List ℕ → WholeLine → ℕ → Value → List Float → List ℕ → Float → List ℕ → ℕ → Evaluated → List ℕ → Float → List ℕ → Type 0
 Does s (WholeLine.Show name) j v f js t out written r js′ t′ out′ = ShownAs s name (foundAt v f (name .code) j) j js t out written r js′ t′ out′
 Does s WholeLine.Total j v f js t out written r js′ t′ out′ = TotalLine (metres t) out written r out′ × (js′ ≡ js) × (t′ ≡ t)
+Does s (WholeLine.Apart x) j v f js t out written r js′ t′ out′ = (r ≡ apartLine x f js written) × (js′ ≡ js) × (t′ ≡ t) × (out′ ≡ out)
 
 pub record LineDoes (s : List ℕ) (line : WholeLine) (j : ℕ) (v : Value) (f : List Float) (js : List ℕ) (t : Float) (out : List ℕ) (written : ℕ) (r : Evaluated) (js′ : List ℕ) (t′ : Float) (out′ : List ℕ) : Type 0 where
   pub is : Does s line j v f js t out written r js′ t′ out′

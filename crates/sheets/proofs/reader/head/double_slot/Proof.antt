@@ -1,6 +1,6 @@
 -- `sheets::reader::head::double_slot` meets its contract. Assumes nothing.
 use mathlib.Core.Path.{sym, ap, _∙_}
-use Rattle.sheets.specs.code.reader.Views.{doubled}
+use Rattle.sheets.specs.code.reader.Views.{doubledBy, doubled}
 use Rattle.sheets.proofs.reader.ReaderLaws.{spaced-is}
 use Rattle.sheets.proofs.reader.PieceSteps.{spaced-none}
 use borrow.Author.Needs.{needs}
@@ -20,7 +20,7 @@ returns : tie.Need-returns
 returns c = c .double .ensures ∙ ap doubled (sym (spaced-is _ _ _ (c .before .before .byte .ensures .is) _ (c .before .if1 .taken)))
 
 returns-2 : tie.Need-returns-2
-unfolding doubled
+unfolding doubledBy
 returns-2 c = ap doubled (sym (spaced-none _ _ _ (c .before .byte .ensures .is) _ (c .if1 .left)))
 
 pub double-slot-spec : {M : Type 1} → statement M

@@ -4,12 +4,12 @@ use borrow.Author.Needs.{needs}
 use Rattle.sheets.proofs.run.floats.geocentric_at.Statement.{statement}
 use Rattle.sheets.proofs.run.floats.geocentric_at.Tie as tie
 
-vec-at-requires : tie.Need-vec-at-requires
-vec-at-requires c κs = search needs
+position-at-requires : tie.Need-position-at-requires
+position-at-requires c κs = search needs
 
 returns : tie.Need-returns
 unfolding valueAt
-returns c = simp (c .vec-at .ensures)
+returns c = simp (c .position-at .ensures)
 
 pub geocentric-at-spec : {M : Type 1} → statement M
-geocentric-at-spec = tie.close (tie.spec vec-at-requires returns)
+geocentric-at-spec = tie.close (tie.spec position-at-requires returns)

@@ -4,11 +4,10 @@ use native.Mathlib.Omega.{arith}
 use mathlib.Core.Path.{_≡_, refl, _∙_}
 use mathlib.Core.Logic.{inl, inr}
 use mathlib.Core.List.{List}
-use lib.ListN.{length, getD, length-set, length-replicate}
+use lib.ListN.{length, length-set, length-replicate}
 use Rattle.sheets.specs.declared.answers.RunAnswer.{RunAnswer}
 use Rattle.sheets.specs.code.run.Running.{Runs}
 use Rattle.sheets.proofs.reader.LineSteps.{head-says}
-use Rattle.sheets.proofs.run.WholeParts.{does-count}
 use Rattle.sheets.proofs.run.RunSteps.{RunsFrom, runs-start, runs-end, runs-over, runs-bad, runs-let-not, runs-let, runs-whole-not, runs-whole}
 use borrow.Author.Needs.{needs}
 use borrow.Author.Tests.{ltb-true, ltb-false}
@@ -16,7 +15,7 @@ use Rattle.sheets.proofs.run.lines_run.run_lines.Statement.{statement}
 use Rattle.sheets.proofs.run.lines_run.run_lines.Tie as tie
 
 abbrev Inv-loop : tie.InvT-loop
-Inv-loop s from e readings out₀ t₀ words₀ kinds₀ newest₀ shown₀ sum₀ floats₀ at₀ line₀ n₀ written₀ out t words kinds newest shown sum floats at line n written = (length t ≡ 96) × (n + 1 ≤ line) × (line ≤ 96) × (length out ≡ length out₀) × (length shown ≡ 96) × (getD shown 0 0 + 1 ≤ line)
+Inv-loop s from e readings out₀ t₀ words₀ kinds₀ newest₀ shown₀ sum₀ floats₀ at₀ line₀ n₀ written₀ out t words kinds newest shown sum floats at line n written = (length t ≡ 96) × (n + 1 ≤ line) × (line ≤ 96) × (length out ≡ length out₀)
     × ((q : RunAnswer) (o : List ℕ) → RunsFrom s e readings out₀ (record { at = at; line = line + 1; slots = t; words = words; kinds = kinds; newest = newest; shown = shown; sum = sum; floats = floats; n = n; written = written; out = out }) q o → Runs s from e readings out₀ q o)
 
 abbrev μ-loop : tie.MeasureT-loop
@@ -29,7 +28,7 @@ put-readings-requires : tie.Need-put-readings-requires Inv-loop μ-loop
 put-readings-requires c κs = search needs
 
 loop-holds : tie.Need-loop-holds Inv-loop μ-loop
-loop-holds c = (simp length-replicate, omega arith, omega arith, refl, length-replicate {A = ℕ} 96 0, omega arith, runs-start _ _ _ _ _ _ _ (c .put-readings .ensures))
+loop-holds c = (simp length-replicate, omega arith, omega arith, refl, runs-start _ _ _ _ _ _ _ (c .put-readings .ensures))
 
 add-line : tie.Need-add-line Inv-loop μ-loop
 add-line c = omega arith
@@ -47,7 +46,7 @@ same-length : tie.Need-same-length Inv-loop μ-loop
 same-length c = c .before .before .before .before .before .before .loop .inv .3
 
 returns : tie.Need-returns Inv-loop μ-loop
-returns c = c .before .before .before .before .before .before .loop .inv .6 _ _ (runs-bad (ltb-true _ _ (c .before .before .before .before .if1 .taken)) (head-says _ _ _ (c .before .before .before .line-head .ensures) _ (c .before .enum-told .given .1)) _ _)
+returns c = c .before .before .before .before .before .before .loop .inv .4 _ _ (runs-bad (ltb-true _ _ (c .before .before .before .before .if1 .taken)) (head-says _ _ _ (c .before .before .before .line-head .ensures) _ (c .before .enum-told .given .1)) _ _)
 
 enum-known-name : tie.Need-enum-known-name Inv-loop μ-loop
 enum-known-name c = search needs
@@ -71,7 +70,7 @@ same-length-2 : tie.Need-same-length-2 Inv-loop μ-loop
 same-length-2 c = c .before .before .before .before .before .before .before .before .before .before .before .before .before .loop .inv .3
 
 returns-2 : tie.Need-returns-2 Inv-loop μ-loop
-returns-2 c = c .before .before .before .before .before .before .before .before .before .before .before .before .before .loop .inv .6 _ _ (runs-let-not (ltb-true _ _ (c .before .before .before .before .before .before .before .before .before .before .before .if1 .taken)) _ _ (head-says _ _ _ (c .before .before .before .before .before .before .before .before .before .before .line-head .ensures) _ (c .before .before .before .before .before .before .before .before .name .given .1)) _ _ (c .before .before .let-value .ensures) (c .before .match2 .keys2) _ (c .stopped .ensures))
+returns-2 c = c .before .before .before .before .before .before .before .before .before .before .before .before .before .loop .inv .4 _ _ (runs-let-not (ltb-true _ _ (c .before .before .before .before .before .before .before .before .before .before .before .if1 .taken)) _ _ (head-says _ _ _ (c .before .before .before .before .before .before .before .before .before .before .line-head .ensures) _ (c .before .before .before .before .before .before .before .before .name .given .1)) _ _ (c .before .before .let-value .ensures) (c .before .match2 .keys2) _ (c .stopped .ensures))
 
 give-requires : tie.Need-give-requires Inv-loop μ-loop
 give-requires c κs = omega (arith, c .before .before .before .before .before .before .before .before .before .before .before .before .before .before .before .before .before .before .loop .inv .1, c .before .before .before .before .before .before .before .before .before .before .before .before .before .before .before .before .before .loop-test .taken)
@@ -86,7 +85,7 @@ loop-less : tie.Need-loop-less Inv-loop μ-loop
 loop-less c = omega (arith, c .before .before .before .before .before .before .before .before .before .before .before .before .before .before .before .before .before .before .loop-test .taken)
 
 loop-again : tie.Need-loop-again Inv-loop μ-loop
-loop-again c = (simp length-set (c .before .before .before .before .before .before .before .before .before .before .before .before .before .before .before .before .before .before .before .loop .inv .0), omega (arith, c .before .before .before .before .before .before .before .before .before .before .before .before .before .before .before .before .before .before .before .loop .inv .1), omega (arith, c .before .before .before .before .before .before .before .before .before .before .before .before .before .before .before .before .before .before .loop-test .taken), c .before .before .before .before .before .before .before .before .before .before .before .before .before .before .before .before .before .before .before .loop .inv .3, c .before .before .before .before .before .before .before .before .before .before .before .before .before .before .before .before .before .before .before .loop .inv .4, omega (arith, c .before .before .before .before .before .before .before .before .before .before .before .before .before .before .before .before .before .before .before .loop .inv .5), λ q o k. c .before .before .before .before .before .before .before .before .before .before .before .before .before .before .before .before .before .before .before .loop .inv .6 q o (runs-let (ltb-true _ _ (c .before .before .before .before .before .before .before .before .before .before .before .before .before .before .before .before .before .if1 .taken)) _ _ (head-says _ _ _ (c .before .before .before .before .before .before .before .before .before .before .before .before .before .before .before .before .line-head .ensures) _ (c .before .before .before .before .before .before .before .before .before .before .before .before .before .before .name .given .1)) _ _ (c .before .before .before .before .before .before .before .before .let-value .ensures) _ _ (c .before .before .before .before .before .before .r .given .1) (omega (arith, c .before .before .before .before .before .before .before .before .before .before .before .before .before .before .before .before .before .before .before .loop .inv .1, c .before .before .before .before .before .before .before .before .before .before .before .before .before .before .before .before .before .before .loop-test .taken)) _ _ _ _ (c .give .ensures) q o k))
+loop-again c = (simp length-set (c .before .before .before .before .before .before .before .before .before .before .before .before .before .before .before .before .before .before .before .loop .inv .0), omega (arith, c .before .before .before .before .before .before .before .before .before .before .before .before .before .before .before .before .before .before .before .loop .inv .1), omega (arith, c .before .before .before .before .before .before .before .before .before .before .before .before .before .before .before .before .before .before .loop-test .taken), c .before .before .before .before .before .before .before .before .before .before .before .before .before .before .before .before .before .before .before .loop .inv .3, λ q o k. c .before .before .before .before .before .before .before .before .before .before .before .before .before .before .before .before .before .before .before .loop .inv .4 q o (runs-let (ltb-true _ _ (c .before .before .before .before .before .before .before .before .before .before .before .before .before .before .before .before .before .if1 .taken)) _ _ (head-says _ _ _ (c .before .before .before .before .before .before .before .before .before .before .before .before .before .before .before .before .line-head .ensures) _ (c .before .before .before .before .before .before .before .before .before .before .before .before .before .before .name .given .1)) _ _ (c .before .before .before .before .before .before .before .before .let-value .ensures) _ _ (c .before .before .before .before .before .before .r .given .1) (omega (arith, c .before .before .before .before .before .before .before .before .before .before .before .before .before .before .before .before .before .before .before .loop .inv .1, c .before .before .before .before .before .before .before .before .before .before .before .before .before .before .before .before .before .before .loop-test .taken)) _ _ _ _ (c .give .ensures) q o k))
 
 enum-known-w : tie.Need-enum-known-w Inv-loop μ-loop
 enum-known-w c = search needs
@@ -104,7 +103,7 @@ array-copy-out-whole-line : tie.Need-array-copy-out-whole-line Inv-loop μ-loop
 array-copy-out-whole-line c = omega (arith, c .word-place .ensures .most, c .before .before .before .before .before .before .before .before .before .before .loop .inv .0)
 
 whole-line-requires : tie.Need-whole-line-requires Inv-loop μ-loop
-whole-line-requires c κs = (omega (arith, c .before .before .before .before .before .before .before .before .before .before .before .before .before .before .before .loop .inv .5, c .before .before .before .before .before .before .before .before .before .before .before .before .before .before .loop-test .taken), c .before .before .before .before .before .word-place .ensures .most)
+whole-line-requires c κs = c .before .before .before .before .before .word-place .ensures .most
 
 enum-known-count : tie.Need-enum-known-count Inv-loop μ-loop
 enum-known-count c = search needs
@@ -116,22 +115,19 @@ same-length-3 : tie.Need-same-length-3 Inv-loop μ-loop
 same-length-3 c = c .before .before .before .before .whole-line .kept .1 .1 .1 .1 .1 .1 .1 .0 ∙ c .before .before .before .before .before .before .before .before .before .before .before .before .before .before .before .before .before .before .before .before .loop .inv .3
 
 returns-3 : tie.Need-returns-3 Inv-loop μ-loop
-returns-3 c = c .before .before .before .before .before .before .before .before .before .before .before .before .before .before .before .before .before .before .before .before .loop .inv .6 _ _ (runs-whole-not (ltb-true _ _ (c .before .before .before .before .before .before .before .before .before .before .before .before .before .before .before .before .before .before .if1 .taken)) _ (c .before .before .before .before .before .before .before .before .before .before .before .before .before .before .before .before .before .line-head .ensures) _ _ (c .before .before .before .before .before .before .before .before .before .before .before .before .before .before .before .w .given .1) (omega (arith, c .before .before .before .before .before .before .before .before .before .before .before .before .before .before .before .before .before .before .before .loop-test .taken)) _ (c .before .before .before .before .before .before .before .before .before .before .before .named .ensures) _ (c .before .before .before .before .before .before .before .before .before .before .word-place .ensures) _ _ _ _ _ (c .before .before .before .before .whole-line .ensures) (c .before .match3 .keys2) _ (c .stopped2 .ensures))
+returns-3 c = c .before .before .before .before .before .before .before .before .before .before .before .before .before .before .before .before .before .before .before .before .loop .inv .4 _ _ (runs-whole-not (ltb-true _ _ (c .before .before .before .before .before .before .before .before .before .before .before .before .before .before .before .before .before .before .if1 .taken)) _ (c .before .before .before .before .before .before .before .before .before .before .before .before .before .before .before .before .before .line-head .ensures) _ _ (c .before .before .before .before .before .before .before .before .before .before .before .before .before .before .before .w .given .1) (omega (arith, c .before .before .before .before .before .before .before .before .before .before .before .before .before .before .before .before .before .before .before .loop-test .taken)) _ (c .before .before .before .before .before .before .before .before .before .before .before .named .ensures) _ (c .before .before .before .before .before .before .before .before .before .before .word-place .ensures) _ _ _ _ _ (c .before .before .before .before .whole-line .ensures) (c .before .match3 .keys2) _ (c .stopped2 .ensures))
 
 loop-less-2 : tie.Need-loop-less-2 Inv-loop μ-loop
 loop-less-2 c = omega (arith, c .before .before .before .before .before .before .before .before .before .before .before .before .before .before .before .before .before .before .before .before .loop-test .taken)
 
 loop-again-2 : tie.Need-loop-again-2 Inv-loop μ-loop
 loop-again-2 c =
-    let before = c .before .before .before .before .before .before .before .before .before .before .before .before .before .before .before .before .before .before .before .before .before .loop .inv in
-    let count = does-count _ _ _ _ _ _ _ _ _ _ _ _ _ (c .before .before .before .before .before .whole-line .ensures) (before .4) in (
+    let before = c .before .before .before .before .before .before .before .before .before .before .before .before .before .before .before .before .before .before .before .before .before .loop .inv in (
       before .0,
       omega (arith, before .1),
       omega (arith, c .before .before .before .before .before .before .before .before .before .before .before .before .before .before .before .before .before .before .before .before .loop-test .taken),
       c .before .before .before .before .before .whole-line .kept .1 .1 .1 .1 .1 .1 .1 .0 ∙ before .3,
-      count .0,
-      omega (arith, count .1, before .5),
-      λ q o k. before .6 q o (runs-whole (ltb-true _ _ (c .before .before .before .before .before .before .before .before .before .before .before .before .before .before .before .before .before .before .before .if1 .taken)) _ (c .before .before .before .before .before .before .before .before .before .before .before .before .before .before .before .before .before .before .line-head .ensures) _ _ (c .before .before .before .before .before .before .before .before .before .before .before .before .before .before .before .before .w .given .1) (omega (arith, c .before .before .before .before .before .before .before .before .before .before .before .before .before .before .before .before .before .before .before .before .loop-test .taken)) _ (c .before .before .before .before .before .before .before .before .before .before .before .before .named .ensures) _ (c .before .before .before .before .before .before .before .before .before .before .before .word-place .ensures) _ _ _ _ _ (c .before .before .before .before .before .whole-line .ensures) (omega (arith, before .1)) _ _ (c .before .count .given .1) q o k),
+      λ q o k. before .4 q o (runs-whole (ltb-true _ _ (c .before .before .before .before .before .before .before .before .before .before .before .before .before .before .before .before .before .before .before .if1 .taken)) _ (c .before .before .before .before .before .before .before .before .before .before .before .before .before .before .before .before .before .before .line-head .ensures) _ _ (c .before .before .before .before .before .before .before .before .before .before .before .before .before .before .before .before .w .given .1) (omega (arith, c .before .before .before .before .before .before .before .before .before .before .before .before .before .before .before .before .before .before .before .before .loop-test .taken)) _ (c .before .before .before .before .before .before .before .before .before .before .before .before .named .ensures) _ (c .before .before .before .before .before .before .before .before .before .before .before .word-place .ensures) _ _ _ _ _ (c .before .before .before .before .before .whole-line .ensures) (omega (arith, before .1)) _ _ (c .before .count .given .1) q o k),
     )
 
 run-answer-requires-2 : tie.Need-run-answer-requires-2 Inv-loop μ-loop
@@ -142,8 +138,8 @@ same-length-4 c = c .before .before .loop .inv .3
 
 returns-4 : tie.Need-returns-4 Inv-loop μ-loop
 returns-4 c = elim (c .before .loop-test .came) [
-  | inl w ↦ c .before .before .loop .inv .6 _ _ (runs-end (ltb-false _ _ (w .1 .left)) _ (c .run-answer2 .ensures))
-  | inr w ↦ c .before .before .loop .inv .6 _ _ (runs-over (omega (arith, w .left)) _ (c .run-answer2 .ensures))
+  | inl w ↦ c .before .before .loop .inv .4 _ _ (runs-end (ltb-false _ _ (w .1 .left)) _ (c .run-answer2 .ensures))
+  | inr w ↦ c .before .before .loop .inv .4 _ _ (runs-over (omega (arith, w .left)) _ (c .run-answer2 .ensures))
 ]
 
 pub run-lines-spec : {M : Type 1} → statement M

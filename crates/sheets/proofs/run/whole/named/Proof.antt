@@ -7,14 +7,11 @@ use Rattle.sheets.proofs.run.whole.named.Tie as tie
 enum-known-line : tie.Need-enum-known-line
 enum-known-line c = search needs
 
-enum-told : tie.Need-enum-told
-enum-told c = search needs
-
 returns : tie.Need-returns
-returns c = names-other _ _ (c .enum-told .given .1)
+returns c = names-other _ _ (c .match .keys2)
 
 returns-2 : tie.Need-returns-2
 returns-2 c = names-show _ _ (c .before .line .given .1)
 
 pub named-spec : {M : Type 1} → statement M
-named-spec = tie.close (tie.spec enum-known-line enum-told returns returns-2)
+named-spec = tie.close (tie.spec enum-known-line returns returns-2)
