@@ -4,6 +4,8 @@
 //   sheets sample N FOLDER   writes N sheets to FOLDER/stdin, and the interpreter's answers to FOLDER/stdout
 //   sheets text SHEET [READINGS]   the interpreter's text for a sheet in a file
 #![allow(dead_code)]
+#[path = "sheet/aparts.rs"]
+mod aparts;
 #[path = "sheet/beside.rs"]
 mod beside;
 #[path = "../examples/rust/boresheet.rs"]

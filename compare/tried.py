@@ -12,6 +12,7 @@ the gate runs the program and compares what it prints.
 import sys
 from pathlib import Path
 
+from tried_aparts import aparts
 from tried_cases import WGS84, bits, joined, passes, refused, shown, stops
 from tried_lending import lending
 from tried_table import NO_ROWS, TABLE
@@ -251,10 +252,18 @@ def first_totalled():
     yield passes(FIRST[:6] + [TOTAL] + FIRST[6:] + [TOTAL], kinds, shown("total", "l", 0.0) + FIRST_TEXT + shown("total", "l", 0.0))
 
 
+def first_apart():
+    """Request Three on the first sheet: a frame and a d are no g, and the frame's origin is one by each of its names."""
+    lines = FIRST + ["(show p)", "(let o (origin f))", "(show o)", "(apart 100000000)", "(let q (origin f))", "(show q)", "(apart 0)", "(apart 1)"]
+    at = (0.0, 0.0, 6350000.0)
+    text = FIRST_TEXT + shown("p", "d", 0.0, 0.0, 1.0, 0.0) + shown("o", "g", *at) + shown("q", "g", *at)
+    yield stops(lines, "d fenu venu vned venu fenu vned venu d g g apart g g apart apart", 9, 17, text)
+
+
 def main(folder):
     count = 0
     with open(folder / "stdin", "w") as given, open(folder / "stdout", "w") as expected:
-        for cases in sheets_to_try, sizes, lending, grammar, order, stopping, showing, operators, table, whole_turn, totals, first_totalled:
+        for cases in sheets_to_try, sizes, lending, grammar, order, stopping, showing, operators, table, whole_turn, totals, first_totalled, aparts, first_apart:
             for sheet, said in cases():
                 given.write(sheet)
                 expected.write(said)

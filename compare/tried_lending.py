@@ -1,6 +1,6 @@
 """Refusal 2 for `tried.py`: what is lent, in lengths of every sort."""
 
-from tried_cases import KINDS, WGS84, case, joined, shown
+from tried_cases import WGS84, case, codes, joined, shown
 
 # The lengths of 01's refusal 2, each between those one less and one more, nothing at all and far more.
 KIND_LISTS = 0, 95, 96, 97, 200
@@ -15,13 +15,13 @@ def lent(lines, lengths, kinds="", checked=(0, 0), ran=(0, 0), text=""):
     refused 2, and a run's readings that are not 16 or output that is not 24,576 bytes; 1 comes before, the others behind.
     Nothing is written with 2."""
     sheet = joined(lines)
-    codes = [255] + [KINDS.index(kind) for kind in kinds.split()] if checked == (0, 0) else []
+    listed = codes(kinds) if checked == (0, 0) else []
     if 1 <= len(sheet) <= 16384:
         if lengths[0] != 96:
-            codes, checked = [], (2, 0)
+            listed, checked = [], (2, 0)
         if lengths[1] != 16 or lengths[2] != 24576:
             ran, text = (2, 0), ""
-    return case(sheet, {}, codes, checked, ran, text, lengths)
+    return case(sheet, {}, listed, checked, ran, text, lengths)
 
 
 def lending():
@@ -39,4 +39,7 @@ def lending():
         yield lent(begin + ["(let b (tip a))"], lengths, checked=(6, 4), ran=(6, 4))
         yield lent(begin + ["(let b 100000001)"], lengths, "n n n", ran=(7, 4), text=one)
         yield lent(begin + ["(let f (enu (geo (m 0) (m 0) (m 0))))"], lengths, "n n fenu", ran=(8, 4), text=one)
+        twice = begin + ["(let p (geo (m 0) (m 0) (m 0)))", "(let q p)", "(show p)", "(show q)", "(apart 1)"]
+        zeros = shown("p", "g", 0.0, 0.0, 0.0) + shown("q", "g", 0.0, 0.0, 0.0)
+        yield lent(twice, lengths, "n n g g g g apart", ran=(9, 8), text=one + zeros)
     yield lent([" " * 16384], LENGTHS[0], checked=(1, 0), ran=(1, 0))

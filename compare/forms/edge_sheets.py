@@ -53,6 +53,27 @@ TOTALS = """
     "(let total (m 1))", "(let total total)", "(let a total)", "(let a (total))", "(let a (total 1))", "(let a (m (total)))", "(let totals 1)", "(let (total) 1)", "(let total)(total)",
     "(show total)", "(show totals)", "(show (total))", "(show total )", "(show total total)", "(show total", "(show a total)", "(let total 1 )",
 ]
+# What may stand behind an apart's word, and what may not.
+DISTANCES = """
+0 00 000000000 0000000000 0.0 0.000000 0.0000000 000000000.000000 000000005.000000 5 05 5.0 5.5 123456789 1234567890 999999999.999999 1.123456 1.1234567
+100000000 100000000.000001 0.000001 0.1 0.3 2.675 8.5 -0 -0.0 -000 -5 --5 - -- -. -.5 +5 +0 5. .5 . 5..5 5.5.5 5- 5-5 5+ 5e1 5E1 5,0 5_0 0x5 5f 5m m5 a r0 r15 apart
+deg nan inf A (5) (a) (m 5) () ( ) 5) (5 ((5)) (apart (apart) #
+""".split() + [
+    "", " ", "  ", " 5", "5 ", "5 5", "5 a", "a 5", "5 -5", "-5 5", "- 5", "5 .5", "5. 5", "5 m", "5\t", "\t5", "5\r", "5\0", "\0", "5\x7f", "5\x80", "(m 5)", "5 (m 5)", "5\n", "\n5",
+    "(apart 5)",
+]
+# Aparts and what is nearly one, and other lines that have their word.
+APARTS = """
+(apart (apart) (apart) (apart5) (apar) (aparts) ((apart)) (apart)(apart) (5) 5 apart (let (show
+""".split() + [
+    "( apart 5)", " (apart 5)", "(apart 5) ", "(apart\t5)", "(\tapart 5)", "(apart 5)\t", "(apart 5)\r", "(apart 5)\0", "\0(apart 5)", "(a part 5)", "(ap art 5)",
+    "\xef\xbb\xbf(apart 5)", "(apar 5)", "(aparts 5)", "(apart1 5)", "(1apart 5)", "(Apart 5)", "(APART 5)", "(aparT 5)", "(apart. 5)", "(apart- 5)", "(-apart 5)", "[apart 5]",
+    "(apart 5]", "(apart 5;)", "(apart 5)#", "#(apart 5)", "(apartapart 5)", "(separate 5)", "(part 5)", "(5 apart)", "apart 5)", "(apart 5", "apart 5", "(apart 5))",
+    "((apart 5))", "((apart 5)", "(apart 5)(apart 5)", "(apart 5) (apart 5)", "(apart 5)(show a)", "(show a)(apart 5)", "(total 5)", "(show 5)", "(let 5)", "(let apart)",
+    "(let apart 5)", "(let apart (m 5))", "(let apart apart)", "(let a apart)", "(let a (apart))", "(let a (apart 5))", "(let a (apart -5))", "(let a (m (apart 5)))",
+    "(let (apart 5) 1)", "(let apart 5 )", "(let a (apart 5)", "(show apart)", "(show aparts)", "(show (apart 5))", "(show apart )", "(show apart 5)", "(show apart",
+    "(apart show)", "(apart let)", "(apart total)", "(ellipsoid apart)",
+]
 
 
 def nested(depth):
@@ -121,6 +142,21 @@ def totals(seed):
     return made + every_place(seed, [WGS, "(let total (m 1))", "(show total)", total, total])
 
 
+def aparts(seed):
+    """Aparts on every line that there may be, nearly aparts, and each byte and place of one."""
+    apart = "(apart 5)"
+    near = APARTS + ["(apart %s)" % text for text in DISTANCES]
+    sheets = [[WGS, text, "(show a)"] for text in near] + [[WGS, "(show a)", apart, text, "(apart 0.5)"] for text in near]
+    sheets += [[text, apart] for text in (apart, "", "(ellipsoid apart 5)", "(ellipsoid wgs84)(apart 5)", "(ellipsoid wgs84 (apart 5))")]
+    sheets += [[WGS, long_line(200), apart], [WGS, apart, long_line(201), apart], [WGS, "(apart 5%s)" % (" " * 190)], [WGS, apart + " " * 190], [WGS, "(apart %s)" % ("5" * 191)]]
+    sheets += [many(n, apart) for n in (2, 3, 95, 96, 97, 98)] + [many(95) + [apart], many(96) + [apart], many(96, apart) + ["(total)"], many(50, apart) + many(47, "(total)")[1:]]
+    made = [ended(lines) for lines in sheets]
+    made += [ended(many(n, apart))[:-1] for n in (2, 96, 97)] + [ended(many(96)) + b"(apart 5)", ended(many(2)) + b"(apart 5)", ended(many(3, apart)) + b"\n"]
+    made += [ended(many(3, apart)).replace(b"\n", b"\r\n"), ended(many(3, apart)).replace(b"\n", b""), b"(apart 5)\n", b"(apart 5)"]
+    made += [ended([WGS, text % chr(b)]) for text in ("(apart%s5)", "(apart %s)") for b in range(256)]
+    return made + every_place(seed, [WGS, "(let apart (geo (m 1) (m 2) (m 3)))", "(show apart)", "(apart 12.5)", "(apart 0)"])
+
+
 def edges(seed):
     """Every sort of edge, by its name."""
     return {
@@ -132,4 +168,5 @@ def edges(seed):
         "every byte": every_byte(),
         "every place": every_place(seed, ["(ellipsoid 6400000 128.5)", "(let p (lla (deg 90) -0.5 (m r0)))", "(show p)"]),
         "totals": totals(seed),
+        "aparts": aparts(seed),
     }

@@ -17,9 +17,11 @@ from reader import answer
 SEED = 20261115
 # How many of each sort at random the gate has.
 STORED = {"good": 190, "a part wrong": 130, "edited": 140, "tokens": 120, "bytes": 60, "with totals": 90, "a total wrong": 90, "a total edited": 60, "tokens of totals": 60}
+STORED |= {"with aparts": 90, "an apart wrong": 150, "an apart edited": 90, "tokens of aparts": 60}
 # How often each comes at random.
 SHARES = ["good"] * 30 + ["a part wrong"] * 25 + ["edited"] * 30 + ["tokens"] * 10 + ["bytes"] * 5
 SHARES += ["with totals"] * 20 + ["a total wrong"] * 20 + ["a total edited"] * 10 + ["tokens of totals"] * 10
+SHARES += ["with aparts"] * 20 + ["an apart wrong"] * 25 + ["an apart edited"] * 15 + ["tokens of aparts"] * 10
 # What is no sheet within its size ends the program's run.
 NO_CASE = "4001 28\n"
 

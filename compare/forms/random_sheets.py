@@ -1,4 +1,4 @@
-"""Sheets at random: over the whole grammar, with a part made wrong, edited, of tokens, of bytes; and with totals, likewise."""
+"""Sheets at random: over the whole grammar, with a part made wrong, edited, of tokens, of bytes; and with totals and with aparts, likewise."""
 
 LETTERS = "abcdefghijklmnopqrstuvwxyz"
 DIGITS = "0123456789"
@@ -13,6 +13,7 @@ WRONG_WORDS = ["", "A", "aB", "1a", "a_b", "a-b", "-a", "a.b", "abcdefghijklm", 
 WRONG_NUMS = ["-", "--1", "+1", "1.", ".5", "-.5", "1234567890", "1.1234567", "1e3", "1.2.3", "1-", "1,5"]
 WRONG_FORMS = ["()", "( a)", "(a )", "(a  b)", "(a\tb)", "(a b c d e f g)", "((a))", "(1)", "(a", "a)", "(a))", "(a)(b)", "(a(b))", "(a (b)c)", "a b", "[a]"]
 WRONG_TOTALS = ["tota", "totals", "Total", "TOTAL", "total ", " total", "t", "tot al", "sum", "-total", "total.", "total1", "(total)", ""]
+WRONG_APARTS = ["apart", "apar 5", "aparts 5", "Apart 5", "APART 5", "apart  5", "apart 5 ", " apart 5", "apart5", "apart 5 5", "apart, 5", "5", "5 apart", "a part 5", ""]
 
 
 class Random:
@@ -218,6 +219,44 @@ def total_tokens(r):
     return of_tokens(r, LINES + ["(total)\n"], TOKENS + ["(total", "total", "(total)"])
 
 
+def plain(r):
+    """A NUM without a minus."""
+    return num(r).removeprefix("-")
+
+
+def lines_with_aparts(r):
+    """Good lines with aparts anywhere among them, and with their word as a name."""
+    lines = good_lines(r)[:90]
+    for _ in range(1 + r.below(4)):
+        named = r.pick(["(show apart)", "(let apart %s)" % leaf(r), "(let %s (apart %s))" % (word(r), num(r)), "(total)"])
+        lines.insert(1 + r.below(len(lines)), "(apart %s)" % plain(r) if r.often(75) else named)
+    return lines
+
+
+def with_aparts(r):
+    return ended(lines_with_aparts(r))
+
+
+def wrong_apart(r):
+    """A sheet with aparts, and a line among them that is nearly one: its NUM with a minus or no NUM, something behind it, another word."""
+    lines = lines_with_aparts(r)
+    number, inner = plain(r), r.pick([" " + leaf(r), r.pick(LETTERS + DIGITS), r.pick(" \t\r\0().-")])
+    texts = ["(apart -%s)" % number, "(apart %s)" % r.pick(WRONG_NUMS), "(apart %s)" % word(r), "(apart %s)" % wrong_expr(r), "(apart %s%s)" % (number, inner)]
+    texts += ["(apart %s)%s" % (number, inner), "%s(apart %s)" % (inner, number), "(apart%s%s)" % (inner, number), "(%s)" % r.pick(WRONG_APARTS), "(show apart%s)" % inner]
+    lines.insert(1 + r.below(len(lines)), r.pick(texts))
+    return ended(lines)
+
+
+def edited_apart(r):
+    """A sheet that ends with an apart, edited there."""
+    sheet = with_aparts(r)
+    return edit(r, sheet + ("(apart %s)\n" % plain(r)).encode(), len(sheet))
+
+
+def apart_tokens(r):
+    return of_tokens(r, LINES + ["(apart 5)\n"], TOKENS + ["(apart", "(apart ", "apart", "(apart 5", "5)"])
+
+
 SORTS = {
     "good": good,
     "a part wrong": wrong,
@@ -228,4 +267,8 @@ SORTS = {
     "a total wrong": wrong_total,
     "a total edited": edited_total,
     "tokens of totals": total_tokens,
+    "with aparts": with_aparts,
+    "an apart wrong": wrong_apart,
+    "an apart edited": edited_apart,
+    "tokens of aparts": apart_tokens,
 }

@@ -1,4 +1,4 @@
-"""A reader of sheets, by document 01's section on a sheet's bytes and the line of document 02's request Two.
+"""A reader of sheets, by document 01's section on a sheet's bytes and the lines of document 02's requests Two and Three.
 
 It uses nothing of crates/sheets, neither code nor definitions, and goes another way: the sheet
 is cut at its LFs first, and in an expression the brackets that hold no bracket are taken away,
@@ -9,13 +9,15 @@ import re
 import struct
 
 WORD = rb"[a-z][a-z0-9]{0,11}"
-NUM = rb"-?[0-9]{1,9}(?:\.[0-9]{1,6})?"
+PLAIN = rb"[0-9]{1,9}(?:\.[0-9]{1,6})?"
+NUM = rb"-?%s" % PLAIN
 # What a bracket leaves behind; no byte of the grammar.
 GONE = b"#"
 
 LET = re.compile(rb"\(let (%s) (.+)\)" % WORD, re.DOTALL)
 SHOW = re.compile(rb"\(show (%s)\)" % WORD)
 TOTAL = re.compile(rb"\(total\)")
+APART = re.compile(rb"\(apart (%s)\)" % PLAIN)
 WGS84 = re.compile(rb"\(ellipsoid wgs84\)")
 CUSTOM = re.compile(rb"\(ellipsoid (%s) (%s)\)" % (NUM, NUM))
 ONE = re.compile(rb"%s|%s|%s" % (WORD, NUM, GONE))
@@ -71,7 +73,8 @@ def other_line(text):
         return "let %s %s" % (found[1].decode(), shown(found[2]))
     if TOTAL.fullmatch(text):
         return "total"
-    return None
+    found = APART.fullmatch(text)
+    return found and "apart %s" % bits(found[1])
 
 
 def read(sheet):

@@ -1,4 +1,5 @@
 // One sheet by the library and by the interpreter: the answers, and every byte that was lent or lies beside it.
+use crate::aparts::{self, Aparts};
 use crate::library::{boresheet_check, boresheet_run};
 use crate::make::{Made, Sort};
 use crate::random::Random;
@@ -69,6 +70,7 @@ pub struct Compared {
     // whether the interpreter's run meets the line of request One
     pub request_one: bool,
     pub totals: Totals,
+    pub aparts: Aparts,
     pub differences: Vec<String>,
 }
 
@@ -85,7 +87,7 @@ const RIGHT: [usize; 3] = [LINES, READINGS, OUTPUT];
 
 impl Beside {
     pub fn new() -> Beside {
-        Beside { pattern: (0..40_000u64).map(|k| 128 + (k * k / 7 % 127) as u8).collect(), turn: 0 }
+        Beside { pattern: (0..40_000u64).map(|k| 128 + (k * k / 7 % 113) as u8).collect(), turn: 0 }
     }
 
     // One sheet in eight is lent without guards, for a tool that watches memory; one in sixteen with wrong lengths, save those of the table.
@@ -95,11 +97,11 @@ impl Beside {
         let lengths = if made.sort != Sort::Table && r.below(16) == 0 { wrong(r, &mut made) } else { RIGHT };
         let mut differences = Vec::new();
         let check = self.check(&made, lengths[0], met, &mut differences);
-        let (request_one, (run, totals)) = met_during(|| self.run(&made, lengths, applied, &mut differences));
+        let (request_one, (run, totals, aparts)) = met_during(|| self.run(&made, lengths, applied, &mut differences));
         if made.sort.is_admitted() && lengths == RIGHT && check.number != 0 {
             differences.push("the interpreter refuses a sheet made to pass".to_string());
         }
-        Compared { made, lengths, check, run, request_one, totals, differences }
+        Compared { made, lengths, check, run, request_one, totals, aparts, differences }
     }
 
     fn lent<T: Copy + PartialEq>(&self, content: &[T], guard: impl Fn(u8) -> T) -> Lent<T> {
@@ -127,7 +129,7 @@ impl Beside {
         answer
     }
 
-    fn run(&self, made: &Made, [_, count, length]: [usize; 3], applied: &mut Counts, differences: &mut Vec<String>) -> (Answer, Totals) {
+    fn run(&self, made: &Made, [_, count, length]: [usize; 3], applied: &mut Counts, differences: &mut Vec<String>) -> (Answer, Totals, Aparts) {
         let mut sheet = self.lent(&made.sheet, |b| b);
         let bits: Vec<u64> = (0..count).map(|k| made.readings[k % READINGS]).collect();
         let mut readings = self.lent(&bits, |b| b as u64);
@@ -151,7 +153,8 @@ impl Beside {
             let text = |all: &[u8]| all[out.guard..out.guard + (theirs.2 as usize).min(length)].escape_ascii().to_string().replace("\\n", "\n      ");
             differences.push(format!("run: output from {at} on\n   Rust:\n      {}\n   Rattle:\n      {}", text(&out.wanted), text(&out.all)));
         }
-        (answer, totals::of(&made.sheet, answer, &out.wanted()[..theirs.2 as usize]))
+        let text = &out.wanted()[..theirs.2 as usize];
+        (answer, totals::of(&made.sheet, answer, text), aparts::of(&made.sheet, answer, text))
     }
 }
 

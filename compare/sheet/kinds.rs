@@ -136,23 +136,27 @@ fn expression(steps: &mut [Step], known: &Known, stack: &mut Vec<Kind>, met: &mu
     Ok(stack.pop().unwrap())
 }
 
-// Refusals 5 and 6, in the machine's order. Line 1's code is 255.
+const ELLIPSOID: u8 = 255;
+const APART: u8 = 254;
+
+// Refusals 5 and 6, in the machine's order.
 pub fn walk(sheet: &mut Sheet, mut code: impl FnMut(usize, u8), mut met: impl FnMut(Op)) -> Result<(), Refusal> {
     let mut known = Known::readings();
     let mut stack = Vec::new();
-    code(0, 255);
+    code(0, ELLIPSOID);
     for (at, line) in sheet.lines.iter_mut().enumerate() {
-        let kind = match line {
+        let found = match line {
             Line::Let { name, steps } => expression(&mut sheet.steps[steps.clone()], &known, &mut stack, &mut met)
-                .and_then(|kind| known.give(*name, kind).map(|()| kind)),
+                .and_then(|kind| known.give(*name, kind).map(|()| kind.code())),
             Line::Show { name, place } => known.place(*name).ok_or(5).map(|found| {
                 *place = found;
-                known.kinds[found]
+                known.kinds[found].code()
             }),
-            Line::Total => Ok(L),
+            Line::Total => Ok(L.code()),
+            Line::Apart(_) => Ok(APART),
         };
-        match kind {
-            Ok(kind) => code(at + 1, kind.code()),
+        match found {
+            Ok(found) => code(at + 1, found),
             Err(number) => return refused(number, at as u32 + 2),
         }
     }

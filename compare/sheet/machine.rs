@@ -1,10 +1,10 @@
-// The run of an admitted sheet: values line by line, the text of its shows and totals, refusals 7 and 8.
+// The run of an admitted sheet: values line by line, the text of its shows and totals, refusals 7, 8 and 9.
 use super::reader::{Line, Sheet, Step};
 use super::rows::{self, Stop};
 use super::values::Value;
 use super::words::Op;
-use reference::Length;
 use reference::ellipsoidal::Ellipsoid;
+use reference::{Length, PositionVector, Vec3};
 
 struct Machine<'a> {
     earth: Ellipsoid,
@@ -13,7 +13,15 @@ struct Machine<'a> {
     stack: Vec<Value>,
     // the sum of the lengths shown so far; beyond the limit it is refused only where it is to be written
     shown: Length,
+    // the geocentric positions shown so far, each name once
+    collars: Vec<Collar>,
     text: Text<'a>,
+}
+
+// A position in metres, and the place of its name.
+struct Collar {
+    place: usize,
+    metres: Vec3,
 }
 
 pub fn run(sheet: &Sheet, readings: &[f64], out: &mut [u8], mut applied: impl FnMut(Op)) -> (u32, u32, u64) {
@@ -24,7 +32,7 @@ pub fn run(sheet: &Sheet, readings: &[f64], out: &mut [u8], mut applied: impl Fn
     let mut known = Vec::with_capacity(readings.len() + sheet.lines.len());
     known.extend(readings.iter().map(|&n| Value::Number(n)));
     let text = Text { out, written: 0 };
-    let mut machine = Machine { earth, known, stack: Vec::with_capacity(16), shown: Length::ZERO, text };
+    let mut machine = Machine { earth, known, stack: Vec::with_capacity(16), shown: Length::ZERO, collars: Vec::new(), text };
     for (at, line) in sheet.lines.iter().enumerate() {
         if let Err(number) = machine.line(line, &sheet.steps, &mut applied) {
             return (number, at as u32 + 2, machine.text.written as u64);
@@ -47,12 +55,37 @@ impl Machine<'_> {
             }
             Line::Show { name, place } => {
                 let value = tested(self.known[*place])?;
-                if let Value::Length(length) = value {
-                    self.shown = self.shown + length;
-                }
+                self.note(*place, &value);
                 self.text.show(name.text(), &value);
             }
             Line::Total => self.text.show(b"total", &tested(Value::Length(self.shown))?),
+            Line::Apart(least) => {
+                tested(Value::Number(*least))?;
+                self.apart(*least)?;
+            }
+        }
+        Ok(())
+    }
+
+    // What later totals and aparts look back on.
+    fn note(&mut self, place: usize, value: &Value) {
+        match value {
+            Value::Length(length) => self.shown = self.shown + *length,
+            Value::Geocentric(p) if self.collars.iter().all(|collar| collar.place != place) => {
+                self.collars.push(Collar { place, metres: p.as_metres() });
+            }
+            _ => (),
+        }
+    }
+
+    // Refusal 9.
+    fn apart(&self, least: f64) -> Result<(), u32> {
+        for (k, one) in self.collars.iter().enumerate() {
+            for other in &self.collars[..k] {
+                if (one.metres - other.metres).norm() < least {
+                    return Err(9);
+                }
+            }
         }
         Ok(())
     }

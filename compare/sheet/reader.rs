@@ -23,6 +23,7 @@ pub enum Line {
     // the place is found by the check
     Show { name: Word, place: usize },
     Total,
+    Apart(f64),
 }
 
 pub struct Sheet {
@@ -102,6 +103,8 @@ impl<'a> Reader<'a> {
             Line::Let { name, steps: first..steps.len() }
         } else if self.take(b"(show ").is_some() {
             Line::Show { name: self.word()?, place: 0 }
+        } else if self.take(b"(apart ").is_some() {
+            Line::Apart(self.distance()?)
         } else {
             self.take(b"(total")?;
             Line::Total
@@ -143,6 +146,11 @@ impl<'a> Reader<'a> {
         }
         let length = self.0.iter().take_while(|b| b.is_ascii_lowercase() || b.is_ascii_digit()).count();
         Word::of(self.split(length))
+    }
+
+    // A NUM without a minus.
+    fn distance(&mut self) -> Option<f64> {
+        if self.0.starts_with(b"-") { None } else { self.number() }
     }
 
     fn number(&mut self) -> Option<f64> {

@@ -1,11 +1,12 @@
-// What the comparison of sheets has come to: counts by refusal, by sort and by operator, and of totals.
+// What the comparison of sheets has come to: counts by refusal, by sort and by operator, and of totals and aparts.
+use crate::aparts::Aparts;
 use crate::beside::{Compared, Counts};
 use crate::make::Sort;
 use crate::sheet;
 use crate::sheet::words::Op;
 use crate::totals::Totals;
 
-const NUMBERS: usize = 9;
+const NUMBERS: usize = 10;
 
 pub struct Tally {
     // by the refusal's number, 0 for none
@@ -23,6 +24,9 @@ pub struct Tally {
     // those whose run writes a total, and what becomes of all totals
     with_totals: u64,
     totals: Totals,
+    // those whose run meets an apart, and what becomes of all of them
+    with_aparts: u64,
+    aparts: Aparts,
     // those refused 3 at a line behind one that 4, 5 or 6 would refuse
     behind: u64,
     pub different: u64,
@@ -41,6 +45,8 @@ impl Tally {
             request_one: 0,
             with_totals: 0,
             totals: Totals::default(),
+            with_aparts: 0,
+            aparts: Aparts::default(),
             behind: 0,
             different: 0,
         }
@@ -55,12 +61,14 @@ impl Tally {
         self.request_one += compared.request_one as u64;
         self.with_totals += (compared.totals.written > 0) as u64;
         self.totals.add(compared.totals);
+        self.with_aparts += compared.aparts.is_any() as u64;
+        self.aparts.add(compared.aparts);
         self.behind += (compared.check.number == 3 && refused_before(&compared.made.sheet, compared.check.line)) as u64;
         self.different += !compared.differences.is_empty() as u64;
     }
 
     pub fn print(&self) {
-        println!("sheets by refusal       none        1        2        3        4        5        6        7        8");
+        println!("sheets by refusal       none        1        2        3        4        5        6        7        8        9");
         println!("check             {}", row(&self.check));
         let mut run = [0; NUMBERS];
         self.run.iter().for_each(|sort| (0..NUMBERS).for_each(|k| run[k] += sort[k]));
@@ -79,6 +87,9 @@ impl Tally {
         println!("of those that the check refuses 3, behind a line that 4, 5 or 6 would refuse: {}", self.behind);
         let Totals { written, of_several, refused } = self.totals;
         println!("sheets that write a total: {}; totals written: {written}; of two or more lengths: {of_several}; sums refused 7: {refused}", self.with_totals);
+        let Aparts { passed, over_pairs, at_least, broken, beyond } = self.aparts;
+        println!("sheets that meet an apart: {}; passed: {passed}; over two or more names: {over_pairs}; with two exactly so far apart: {at_least}", self.with_aparts);
+        println!("   refused 9: {broken}; refused 7: {beyond}");
         let Tally { bytes, written, sheets, request_one, different, .. } = self;
         println!("total: {sheets} sheets of {bytes} bytes, {written} bytes written, {request_one} meet request One, {different} different");
     }

@@ -20,7 +20,7 @@ impl Totals {
 
 pub fn of(sheet: &[u8], run: Answer, text: &[u8]) -> Totals {
     let mut totals = Totals::default();
-    if !matches!(run.number, 0 | 7 | 8) {
+    if !matches!(run.number, 0 | 7..=9) {
         return totals;
     }
     let mut lengths = 0;

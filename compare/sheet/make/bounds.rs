@@ -1,11 +1,11 @@
-// Sheets at the sizes where refusals 1 and 3 begin: bytes, lines, a line's bytes, arguments, letters, digits, depth.
+// Sheets at the sizes where refusals 1 and 3 begin: bytes, lines, a line's bytes, arguments, letters, digits, depth; and the most that a run looks back on.
 use super::numerals::long;
 use crate::random::Random;
 
 const FIRST: &str = "(ellipsoid wgs84)\n";
 
 pub fn sheet(r: &mut Random) -> Vec<u8> {
-    match r.below(18) {
+    match r.below(20) {
         0 => Vec::new(),
         1 => vec![r.pick(&[b'\n', b'(', b' ', 0, 255])],
         2 | 3 => bytes(r),
@@ -17,6 +17,7 @@ pub fn sheet(r: &mut Random) -> Vec<u8> {
         13 => names(r),
         14 => wide(r),
         15 => shown(r),
+        16 | 17 => collars(r),
         _ => depth(r),
     }
 }
@@ -62,7 +63,7 @@ fn lines(r: &mut Random) -> Vec<u8> {
     for k in 0..count {
         match r.below(6) {
             0 => sheet.push_str(&format!("(let n{k} {k})\n")),
-            1 => sheet.push_str("(total)\n"),
+            1 => sheet.push_str(r.pick(&["(total)\n", "(apart 5)\n"])),
             _ => sheet.push_str(&format!("(show r{})\n", r.below(16))),
         }
     }
@@ -71,7 +72,7 @@ fn lines(r: &mut Random) -> Vec<u8> {
         1 => sheet.push('\n'),
         2 => sheet.push_str("(show r0)"),
         3 => sheet.truncate(sheet.len() - 1),
-        4 => sheet.push_str("(total)\n"),
+        4 => sheet.push_str(r.pick(&["(total)\n", "(apart 5)\n"])),
         _ => (),
     }
     // and at times an earlier one is bad
@@ -115,7 +116,7 @@ fn letters(r: &mut Random) -> Vec<u8> {
     .into_bytes()
 }
 
-// About nine digits before the point and six behind it, in an expression or on line 1.
+// About nine digits before the point and six behind it, in an expression, on line 1 or in an apart.
 fn digits(r: &mut Random) -> Vec<u8> {
     let run = |r: &mut Random, count: usize| -> String { (0..count).map(|_| r.pick(b"0123456789") as char).collect() };
     let (before, behind) = (r.pick(&[1, 8, 9, 10, 11]), r.pick(&[0, 1, 5, 6, 7, 8]));
@@ -123,9 +124,10 @@ fn digits(r: &mut Random) -> Vec<u8> {
     if behind > 0 || r.below(3) == 0 {
         number = number + "." + &run(r, behind);
     }
-    match r.below(4) {
+    match r.below(5) {
         0 => format!("(ellipsoid {number} 298)\n"),
         1 => format!("(ellipsoid 6378137 {number})\n(show r0)\n"),
+        2 => format!("{FIRST}(let p (geo (m 0) (m 0) (m 0)))\n(show p)\n(apart {number})\n(show p)\n"),
         _ => format!("{FIRST}(show r0)\n(let a {number})\n(show a)\n"),
     }
     .into_bytes()
@@ -176,4 +178,18 @@ fn shown(r: &mut Random) -> Vec<u8> {
     let count = r.pick(&[90, 93, 94]);
     let frame = r.pick(&["(body (deg 1) (deg 2) (deg 3) (lla (deg 50) (deg 8) (m 100)))", "(wan (deg 1) (lla (deg 50) (deg 8) (m r15)))"]);
     format!("{FIRST}(let {name} {frame})\n{}", format!("(show {name})\n").repeat(count)).into_bytes()
+}
+
+// As many collars as can be shown before an apart, 5 metres from one to the next; at times one of them, the last shown or any, stands where another does.
+fn collars(r: &mut Random) -> Vec<u8> {
+    let count = r.pick(&[46, 47, 47]);
+    let (first, any, other) = (r.below(count), r.below(count), r.below(count));
+    let moved = r.pick(&[None, Some((first + count - 1) % count), Some(any)]);
+    let mut sheet = FIRST.to_string();
+    for k in 0..count {
+        let east = if moved == Some(k) { other } else { k };
+        sheet.push_str(&format!("(let c{k} (geo (m {}) (m 0) (m 0)))\n", 5 * east));
+    }
+    (0..count).for_each(|k| sheet.push_str(&format!("(show c{})\n", (first + k) % count)));
+    format!("{sheet}(apart {})\n", r.pick(&["5", "5", "5", "5.000001", "0"])).into_bytes()
 }

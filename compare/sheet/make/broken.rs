@@ -130,7 +130,7 @@ fn swap_lines(r: &mut Random, sheet: &mut Vec<u8>) {
 pub fn kind(r: &mut Random, sheet: &mut Vec<u8>) {
     let all = arguments(sheet);
     let Some(place) = pick(r, &all) else {
-        let text = r.pick(&[&b"(r0)"[..], b"(foo)", b"(m)", b"(total)", b"(total 1)", b"(foo 1 2 3 4 5)", b"(deg (m 1))", b"(let 1)", b"(neg 1)", b"(m 1 2)"]);
+        let text = r.pick(&[&b"(r0)"[..], b"(foo)", b"(m)", b"(total)", b"(total 1)", b"(apart)", b"(apart 1)", b"(foo 1 2 3 4 5)", b"(deg (m 1))", b"(let 1)", b"(neg 1)", b"(m 1 2)"]);
         return sheet.extend([&b"(let new "[..], text, b")\n"].concat());
     };
     match r.below(6) {
@@ -167,7 +167,7 @@ const BYTES: [u8; 24] = *b" ()\n\r\t\0-.+09azAZ_\x7f\x80\xff/:`{";
 pub fn byte(r: &mut Random, sheet: &mut Vec<u8>) {
     let at = r.below(sheet.len() as u64) as usize;
     let any = if r.coin() { r.pick(&BYTES) } else { r.bits() as u8 };
-    match r.below(15) {
+    match r.below(22) {
         0 | 1 => sheet[at] = any,
         2 => replace(sheet, at..at + 1, b""),
         3 => sheet.insert(at, any),
@@ -180,7 +180,8 @@ pub fn byte(r: &mut Random, sheet: &mut Vec<u8>) {
         9 => double(r, sheet, b'\n'),
         10 => sheet.push(any),
         11 => number(r, sheet),
-        _ => total(r, sheet),
+        12..=14 => nearly(r, sheet, b"(total)", &TOTALS),
+        _ => nearly(r, sheet, b"(apart ", &APARTS),
     }
     // never empty: that is a size
     if sheet.is_empty() {
@@ -215,16 +216,24 @@ fn number(r: &mut Random, sheet: &mut Vec<u8>) {
     }
 }
 
-// Nearly a total, instead of one or behind some line; or a line that has its word as a name.
-fn total(r: &mut Random, sheet: &mut Vec<u8>) {
-    let texts = [
-        "(total )", "(total x)", "(total 1)", "(totals)", "(Total)", "( total)", " (total)", "(total) ", "(total\t)", "(total)\r", "(total", "total)", "total", "(tota)",
-        "((total))", "(total))", "(total (m 1))", "(total r0)", "(total)(total)", "(total) (total)", "(show total)", "(let total 1)", "(let total total)", "(let x (total))",
-    ];
-    let text = r.pick(&texts);
+const TOTALS: [&str; 24] = [
+    "(total )", "(total x)", "(total 1)", "(totals)", "(Total)", "( total)", " (total)", "(total) ", "(total\t)", "(total)\r", "(total", "total)", "total", "(tota)",
+    "((total))", "(total))", "(total (m 1))", "(total r0)", "(total)(total)", "(total) (total)", "(show total)", "(let total 1)", "(let total total)", "(let x (total))",
+];
+const APARTS: [&str; 48] = [
+    "(apart)", "(apart )", "(apart -5)", "(apart -0)", "(apart -0.0)", "(apart -000)", "(apart --0)", "(apart - 5)", "(apart -)", "(apart +5)", "(apart 5.)",
+    "(apart .5)", "(apart 5 5)", "(apart 5 0)", "(apart 0 0.5)", "(apart  5)", "(apart 5 )", "( apart 5)", " (apart 5)", "(apart 5) ", "(apart\t5)", "(apart 5)\r",
+    "(apart 5", "apart 5)", "apart 5", "(apart 5))", "((apart 5))", "(apart (5))", "(apart (m 5))", "(apart r0)", "(apart x)", "(apart apart)", "(apart 1234567890)",
+    "(apart 1.1234567)", "(apart 5e1)", "(apart5)", "(aparts 5)", "(apar 5)", "(Apart 5)", "(apart 5)(apart 5)", "(apart 5) (show r0)", "(apart 5m)",
+    "(apart 123456789.123456)", "(apart 000000000.000000)", "(show apart)", "(let apart 1)", "(let x (apart 5))", "(let x apart)",
+];
+
+// Nearly a line of the sort that begins so, instead of one or behind some line; or a line that has its word as a name.
+fn nearly(r: &mut Random, sheet: &mut Vec<u8>, begins: &[u8], texts: &[&str]) {
+    let text = r.pick(texts);
     let lines = lines(sheet);
-    let totals: Vec<Range<usize>> = lines.iter().filter(|line| sheet[line.start..line.end] == *b"(total)\n").cloned().collect();
-    let place = match pick(r, &totals) {
+    let such: Vec<Range<usize>> = lines.iter().filter(|line| sheet[line.start..line.end].starts_with(begins)).cloned().collect();
+    let place = match pick(r, &such) {
         Some(place) if r.coin() => place,
         _ => pick(r, &lines).map_or(0..0, |line| line.end..line.end),
     };
@@ -239,7 +248,7 @@ pub fn noise(r: &mut Random) -> Vec<u8> {
         0 => sheet.extend((0..length).map(|_| r.bits() as u8)),
         1 => sheet.extend((0..length).map(|_| r.pick(b"()()  \nletshowabm019.-"))),
         _ => {
-            let parts = ["(let ", "(show ", "(", ")", ")\n", " ", "r0", "a", "1", "(m ", "(deg ", "(venu ", "-0", "\n", "(ellipsoid ", "(total)\n", "total"];
+            let parts = ["(let ", "(show ", "(", ")", ")\n", " ", "r0", "a", "1", "(m ", "(deg ", "(venu ", "-0", "\n", "(ellipsoid ", "(total)\n", "total", "(apart ", "(apart 1)\n", "apart"];
             (0..length / 3 + 1).for_each(|_| sheet.extend(r.pick(&parts).as_bytes()));
         }
     }

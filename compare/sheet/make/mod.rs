@@ -1,6 +1,8 @@
 // Sheets made from a seed: of the right kinds with ordinary values or with those at limits, and sheets broken in every way.
+mod aparts;
 mod bounds;
 mod broken;
+mod earths;
 mod edges;
 mod expressions;
 mod north;
@@ -11,8 +13,8 @@ mod totals;
 use crate::random::Random;
 use crate::sheet::{LINES, READINGS};
 use crate::sheet::words::Op;
-use reference::Length;
-use reference::ellipsoidal::Ellipsoid;
+use aparts::Site;
+use earths::Earth;
 use expressions::{F, KINDS, Kind, Mood, Name, Rows, Writer};
 use numerals::Role;
 use totals::Sizes;
@@ -84,9 +86,11 @@ impl Sort {
 pub struct Made {
     pub sort: Sort,
     pub sheet: Vec<u8>,
-    // as bits
-    pub readings: [u64; READINGS],
+    pub readings: Readings,
 }
+
+// As bits.
+type Readings = [u64; READINGS];
 
 pub struct Maker {
     rows: Rows,
@@ -94,54 +98,8 @@ pub struct Maker {
     short: bool,
 }
 
-// Line 1 and what it says.
-struct Earth {
-    line: String,
-    ellipsoid: Ellipsoid,
-}
-
-impl Earth {
-    fn of(radius: &str, inverse: &str) -> Earth {
-        let ellipsoid = Ellipsoid::new(Length::from_metres(radius.parse().unwrap()), inverse.parse().unwrap());
-        Earth { line: format!("(ellipsoid {radius} {inverse})\n"), ellipsoid }
-    }
-
-    fn admitted(r: &mut Random) -> Earth {
-        match r.below(8) {
-            0..=3 => Earth { line: "(ellipsoid wgs84)\n".to_string(), ellipsoid: Ellipsoid::WGS84 },
-            4 => Earth::of("6400000", "128"),
-            5 => Earth::of(r.pick(&["1000000", "10000000", "6378137"]), r.pick(&["100", "1000", "298.257222"])),
-            _ => {
-                let radius = r.between(1e6, 1e7);
-                let inverse = r.between(100.0, 1000.0);
-                Earth::of(&format!("{radius:.6}"), &format!("{inverse:.6}"))
-            }
-        }
-    }
-
-    // The ranges' ends and their neighbours.
-    fn any(r: &mut Random) -> Earth {
-        let radii = ["999999.999999", "1000000", "1000000.000001", "10000000", "10000000.000001", "9999999.999999", "6378137", "0", "-0", "-6378137", "000000001"];
-        let inverses = ["99.999999", "100", "100.000001", "1000", "1000.000001", "999.999999", "298.257223", "0", "-298", "999999999.999999", "298"];
-        // one of the two lies within, for the most part
-        let k = r.below(5);
-        let radius = if k < 2 { "6378137" } else { r.pick(&radii) };
-        let inverse = if k == 3 { "298.257223" } else { r.pick(&inverses) };
-        Earth::of(radius, inverse)
-    }
-
-    fn radius(&self) -> f64 {
-        self.ellipsoid.equatorial_radius.metres
-    }
-
-    // What q has and p has not.
-    fn squash(&self) -> f64 {
-        1.0 - self.ellipsoid.eccentricity * self.ellipsoid.eccentricity
-    }
-}
-
-const WORDS: [&str; 24] = [
-    "let", "show", "ellipsoid", "wgs84", "total", "totals", "r16", "r00", "r", "r1a", "fenu", "g", "d", "n", "abcdefghijkl", "abcdefghijkm", "abcdefghijk", "z0123456789a", "mm",
+const WORDS: [&str; 26] = [
+    "let", "show", "ellipsoid", "wgs84", "total", "totals", "apart", "aparts", "r16", "r00", "r", "r1a", "fenu", "g", "d", "n", "abcdefghijkl", "abcdefghijkm", "abcdefghijk", "z0123456789a", "mm",
     "to0", "degg", "de", "venus", "rr0",
 ];
 
@@ -191,22 +149,22 @@ impl Maker {
             numerals::centre(r, earth.radius(), earth.squash(), &mut readings);
         }
         let sheet = match sort {
-            Sort::Names => self.broken(r, &earth, broken::name),
-            Sort::Kinds => self.broken(r, &earth, broken::kind),
-            Sort::Bytes => self.broken(r, &earth, broken::byte),
+            Sort::Names => self.broken(r, &earth, &mut readings, broken::name),
+            Sort::Kinds => self.broken(r, &earth, &mut readings, broken::kind),
+            Sort::Bytes => self.broken(r, &earth, &mut readings, broken::byte),
             Sort::Sizes => bounds::sheet(r),
             Sort::Table => table::any(r),
             Sort::Noise => broken::noise(r),
-            _ => self.admitted(r, &earth, sort),
+            _ => self.admitted(r, &earth, sort, &mut readings),
         };
         Made { sort, sheet, readings }
     }
 
     // A sheet of the right kinds, broken once or more often.
-    fn broken(&self, r: &mut Random, earth: &Earth, how: fn(&mut Random, &mut Vec<u8>)) -> Vec<u8> {
+    fn broken(&self, r: &mut Random, earth: &Earth, readings: &mut Readings, how: fn(&mut Random, &mut Vec<u8>)) -> Vec<u8> {
         let other = Earth::any(r);
         let earth = if r.below(16) == 0 { &other } else { earth };
-        let mut sheet = self.admitted(r, earth, Sort::Ordinary);
+        let mut sheet = self.admitted(r, earth, Sort::Ordinary, readings);
         let times = r.pick(&[1, 1, 1, 1, 2, 3]);
         for k in 0..times {
             let again = r.pick(&[how, broken::name, broken::kind, broken::byte]);
@@ -215,27 +173,24 @@ impl Maker {
         sheet
     }
 
-    fn admitted(&self, r: &mut Random, earth: &Earth, sort: Sort) -> Vec<u8> {
+    // A sheet of the right kinds; the readings are set where its collars need them.
+    fn admitted(&self, r: &mut Random, earth: &Earth, sort: Sort, readings: &mut Readings) -> Vec<u8> {
         let mood = match sort {
             Sort::Limits => Mood::Turning,
             Sort::Centre => Mood::Centre,
             _ => Mood::Ordinary,
         };
-        let mut lines = match sort {
-            Sort::Long => 13 + r.below(84),
-            _ => 1 + r.pick(&[0, 1, 2, 3, 4, 5, 6, 7, 8, 9, 10, 11]).min(r.below(16)),
-        };
-        // three sheets in eight have totals
+        // three sheets in eight have totals, and three in eight aparts
         let sizes = if r.below(8) < 3 { Some(Sizes::any(r)) } else { None };
-        if sizes.is_some() {
-            lines = (lines + 2 + r.below(10)).min(LINES as u64 - 1);
-        }
+        let mut site = if r.below(8) < 3 { Some(Site::any(r, readings)) } else { None };
         let mut sheet = earth.line.clone();
         let mut names = Vec::new();
         let mut fresh = false;
-        for _ in 1..lines {
-            match sizes {
-                Some(sizes) if r.below(4) > 0 => totals::line(r, sizes, &mut names, &mut sheet),
+        for _ in 1..lines(r, sort, sizes.is_some(), site.is_some()) {
+            let themed = r.below(4) > 0;
+            match (&mut site, sizes) {
+                (Some(site), _) if themed && (sizes.is_none() || r.below(3) > 0) => site.line(r, &mut names, &mut sheet),
+                (_, Some(sizes)) if themed => totals::line(r, sizes, &mut names, &mut sheet),
                 // half of what is given is shown at once
                 _ if (fresh && r.coin()) || r.below(6) == 0 => {
                     sheet.push_str(&show(r, &names, fresh));
@@ -250,6 +205,9 @@ impl Maker {
         }
         if sizes.is_some() && (r.coin() || !sheet.contains("(total)")) {
             sheet.push_str("(total)\n");
+        }
+        if let Some(site) = site.filter(|_| r.coin() || !sheet.contains("(apart ")) {
+            sheet.push_str(&site.apart(r));
         }
         sheet.into_bytes()
     }
@@ -278,6 +236,16 @@ impl Maker {
             }
         }
     }
+}
+
+// How many lines there are before the last total and the last apart.
+fn lines(r: &mut Random, sort: Sort, totals: bool, aparts: bool) -> u64 {
+    let some = match sort {
+        Sort::Long => 13 + r.below(84),
+        _ => 1 + r.pick(&[0, 1, 2, 3, 4, 5, 6, 7, 8, 9, 10, 11]).min(r.below(16)),
+    };
+    let more = |r: &mut Random, wanted: bool, most: u64| if wanted { 2 + r.below(most) } else { 0 };
+    (some + more(r, totals, 10) + more(r, aparts, 16)).min(LINES as u64 - totals as u64 - aparts as u64)
 }
 
 // Frames and vectors more often than numbers.

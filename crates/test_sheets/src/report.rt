@@ -1,5 +1,5 @@
 // What the check and the run answer for a sheet, and what they leave in their buffers.
-// Both buffers are the first bytes of larger ones full of 254, which is no kind code and no byte of a text: what still holds it was not written.
+// Both buffers are the first bytes of larger ones full of 200, which is no kind code and no byte of a text: what still holds it was not written.
 use crate::cases::Lent;
 use sheets::check::check;
 use sheets::run::run;
@@ -21,7 +21,7 @@ fn written(s: &[u8]) -> usize
 {
     let mut i: usize = 0;
     while i < s.len() {
-        if s[i] == 254 {
+        if s[i] == 200 {
             return i;
         }
         i += 1;
@@ -33,7 +33,7 @@ fn written(s: &[u8]) -> usize
 fn untouched(s: &[u8], from: usize) -> bool {
     let mut i = from;
     while i < s.len() {
-        if s[i] != 254 {
+        if s[i] != 200 {
             return false;
         }
         i += 1;
@@ -99,9 +99,9 @@ fn ran(s: &[u8], readings: &[f64], out: &mut [u8], lent: usize)
 pub fn sheet(s: &[u8], readings: &[f64], lent: Lent)
     requires { ⌜ (lent .kinds ≤ 256) × (lent .readings ≤ 128) × (lent .output ≤ 32768) × (length (now readings) ≡ 128) ⌝ }
 {
-    let mut kinds = [254u8; 256];
+    let mut kinds = [200u8; 256];
     checked(s, &mut kinds, lent.kinds);
-    let mut out = [254u8; 32768];
+    let mut out = [200u8; 32768];
     let n = lent.readings;
     ran(s, &readings[..n], &mut out, lent.output);
 }
