@@ -74,7 +74,8 @@ pub name-length : (n : ℕ) → length (refusalName n) ≤ 9
 unfolding refusalName
 name-length n =
     cond-length (eqb n 1) 9 _ _ (omega arith) (cond-length (eqb n 2) 9 _ _ (omega arith) (cond-length (eqb n 3) 9 _ _ (omega arith) (cond-length (eqb n 4) 9 _ _ (omega arith)
-    (cond-length (eqb n 5) 9 _ _ (omega arith) (cond-length (eqb n 6) 9 _ _ (omega arith) (cond-length (eqb n 7) 9 _ _ (omega arith) (cond-length (eqb n 8) 9 _ _ (omega arith) (omega arith))))))))
+    (cond-length (eqb n 5) 9 _ _ (omega arith) (cond-length (eqb n 6) 9 _ _ (omega arith) (cond-length (eqb n 7) 9 _ _ (omega arith) (cond-length (eqb n 8) 9 _ _ (omega arith)
+    (cond-length (eqb n 9) 9 _ _ (omega arith) (omega arith)))))))))
 
 pub place-length : (line : ℕ) → length (placeText line) ≤ 29
 unfolding placeText

@@ -18,7 +18,8 @@ decimal (suc k) n = decimalIf (ltb n 10) (decimal k (n / 10)) ((48 + n % 10) ∷
 unfoldable pub refusalName : ℕ → List ℕ
 refusalName n =
     cond (eqb n 1) (ascii "size") (cond (eqb n 2) (ascii "lent") (cond (eqb n 3) (ascii "form") (cond (eqb n 4) (ascii "ellipsoid")
-    (cond (eqb n 5) (ascii "name") (cond (eqb n 6) (ascii "kind") (cond (eqb n 7) (ascii "limit") (cond (eqb n 8) (ascii "centre") [])))))))
+    (cond (eqb n 5) (ascii "name") (cond (eqb n 6) (ascii "kind") (cond (eqb n 7) (ascii "limit") (cond (eqb n 8) (ascii "centre")
+    (cond (eqb n 9) (ascii "apart") []))))))))
 
 -- where 01 names a line
 unfoldable pub placeText : ℕ → List ℕ

@@ -60,7 +60,7 @@ fn put_decimal(n: u64, left: usize, out: &mut [u8], at: usize) -> usize
     put_byte(d, out, m)
 }
 
-// A refusal's name by its number, as document 01 has it.
+// A refusal's name by its number, as documents 01 and 02 have it.
 fn put_name(number: u8, out: &mut [u8], at: usize) -> usize
     requires { ⌜ at + 9 ≤ length (now out) ⌝ }
     ensures { λ r. ⌜ Written (now (out .entry)) at (refusalName number) (now (out .exit)) r ⌝ }
@@ -74,6 +74,7 @@ fn put_name(number: u8, out: &mut [u8], at: usize) -> usize
         6 => put_text(b"kind", out, at),
         7 => put_text(b"limit", out, at),
         8 => put_text(b"centre", out, at),
+        9 => put_text(b"apart", out, at),
         _ => at,
     }
 }

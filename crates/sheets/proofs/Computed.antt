@@ -11,9 +11,10 @@ use Rattle.sheets.specs.Limits.{numValue, inLimit}
 use Rattle.sheets.specs.Output.{outputLine}
 use Rattle.sheets.specs.Machine.{eval, step, steps, surface, machine}
 use Rattle.sheets.specs.Entries.{total}
+use Rattle.sheets.specs.Aparts.{fixes, distance, standApart}
 use Rattle.sheets.specs.Check.{kindOfExpr, lineᶜ, stepᶜ, stepsᶜ, walk}
 use Rattle.sheets.specs.Answers.{ranged, verdict}
 
 unfoldable pub computed : Bool
-unfolding numbersComputed framesComputed decimalFrom reading held hold far table find kindRows search findKind numValue inLimit outputLine total eval step steps surface machine kindOfExpr lineᶜ stepᶜ stepsᶜ walk ranged verdict
+unfolding numbersComputed framesComputed decimalFrom reading held hold far table find kindRows search findKind numValue inLimit outputLine total fixes distance standApart eval step steps surface machine kindOfExpr lineᶜ stepᶜ stepsᶜ walk ranged verdict
 computed = true

@@ -17,6 +17,7 @@ pub mod OwedOnce
 pub mod Starred
 pub mod Pinned
 pub mod TriedTotals
+pub mod TriedAparts
 pub mod ByCases
 pub mod AnswerSteps
 pub mod Computed

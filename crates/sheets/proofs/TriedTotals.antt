@@ -1,18 +1,11 @@
 -- Sheets with totals, from bytes to bytes, by computation. Assumes nothing.
-use mathlib.Core.Path.{_≡_, refl, sym, ap, _∙_}
+use mathlib.Core.Path.{refl}
 use mathlib.Core.List.{List, [], _∷_}
-use mathlib.Core.Bool.{true}
 use Prim.Native.Nat.{ℕ}
 use Prim.Native.String.{String}
-use lib.ListN.{length}
 use lib.Ieee.{Float, binary64, ofBits}
-use borrow.Author.Tests.{eq-eqb}
-use Rattle.sheets.specs.Text.{ascii}
-use Rattle.sheets.specs.Answers.{verdict, CheckAnswer, checkOf, laid, kindsOfVerdict, lentKinds, CheckOwes}
-use Rattle.sheets.specs.code.reader.Reader.{readSheet}
-use Rattle.sheets.proofs.reader.SheetLaws.{reader-only}
 use Rattle.sheets.proofs.Computed.{computed}
-use Rattle.sheets.proofs.Starred.{Runs, Computes, runs}
+use Rattle.sheets.proofs.Starred.{Runs, Computes, runs, Checks, checks}
 
 pub record TriedTotals (P : String → List Float → ℕ → ℕ → String → Type 0) : Type 0 where
   -- no length was shown
@@ -68,18 +61,6 @@ tried-totals = record {
 }
 
 -- ---- the check: the kind code of a total is 2, whatever is shown
-
--- The check of this sheet, lent a kind list of its length, passes it, and writes these codes in its first places.
-pub record Checks (sheet : String) (codes : List ℕ) : Type 0 where
-  pub is : (kinds : List ℕ) → length kinds ≡ 96 → (r : CheckAnswer) (kinds′ : List ℕ) → CheckOwes (ascii sheet) kinds r kinds′ → (r ≡ record { number = 0; line = 0 }) × (kinds′ ≡ laid codes kinds)
-
-checks : (sheet : String) (codes : List ℕ) → ((kinds : List ℕ) → (checkOf (verdict true (ascii sheet) (readSheet (ascii sheet))) ≡ record { number = 0; line = 0 }) × (kindsOfVerdict (verdict true (ascii sheet) (readSheet (ascii sheet))) kinds ≡ laid codes kinds)) → Checks sheet codes
-checks sheet codes h = record {
-  is = λ kinds ek r kinds′ o.
-      let S = ascii sheet in
-      let v : verdict (lentKinds kinds) S (o .form-is) ≡ verdict true S (readSheet S) = ap (λ b. verdict b S (o .form-is)) (eq-eqb (length kinds) 96 ek) ∙ ap (verdict true S) (sym (reader-only S (o .form-is) (o .grammar))) in
-      (o .answer ∙ ap checkOf v ∙ h kinds .0, o .left ∙ ap (λ v. kindsOfVerdict v kinds) v ∙ h kinds .1);
-}
 
 pub total-codes : Checks "(ellipsoid wgs84)\n(total)\n(let a 1)\n(show a)\n(total)\n" (255 ∷ 2 ∷ 0 ∷ 0 ∷ 2 ∷ [])
 unfolding computed

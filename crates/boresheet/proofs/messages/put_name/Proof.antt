@@ -54,6 +54,12 @@ slice-aggregate-put-text-8 c = search needs
 put-text-requires-8 : tie.Need-put-text-requires-8
 put-text-requires-8 c κs = search needs
 
+slice-aggregate-put-text-9 : tie.Need-slice-aggregate-put-text-9
+slice-aggregate-put-text-9 c = search needs
+
+put-text-requires-9 : tie.Need-put-text-requires-9
+put-text-requires-9 c κs = search needs
+
 same-length : tie.Need-same-length
 same-length c = search needs
 
@@ -110,9 +116,16 @@ returns-8 : tie.Need-returns-8
 unfolding refusalName
 returns-8 c = rw (c .before .before .before .before .before .match .keys8) (c .before .before .put-text8 .ensures)
 
+same-length-9 : tie.Need-same-length-9
+same-length-9 c = search needs
+
 returns-9 : tie.Need-returns-9
 unfolding refusalName
-returns-9 c = rw (ne-eqb _ 1 (c .match .rest .0 .0 .0 .0 .0 .0 .0 .1), ne-eqb _ 2 (c .match .rest .0 .0 .0 .0 .0 .0 .1), ne-eqb _ 3 (c .match .rest .0 .0 .0 .0 .0 .1), ne-eqb _ 4 (c .match .rest .0 .0 .0 .0 .1), ne-eqb _ 5 (c .match .rest .0 .0 .0 .1), ne-eqb _ 6 (c .match .rest .0 .0 .1), ne-eqb _ 7 (c .match .rest .0 .1), ne-eqb _ 8 (c .match .rest .1)) (nothing-written _ _)
+returns-9 c = rw (c .before .before .before .before .before .match .keys9) (c .before .before .put-text9 .ensures)
+
+returns-10 : tie.Need-returns-10
+unfolding refusalName
+returns-10 c = rw (ne-eqb _ 1 (c .match .rest .0 .0 .0 .0 .0 .0 .0 .0 .1), ne-eqb _ 2 (c .match .rest .0 .0 .0 .0 .0 .0 .0 .1), ne-eqb _ 3 (c .match .rest .0 .0 .0 .0 .0 .0 .1), ne-eqb _ 4 (c .match .rest .0 .0 .0 .0 .0 .1), ne-eqb _ 5 (c .match .rest .0 .0 .0 .0 .1), ne-eqb _ 6 (c .match .rest .0 .0 .0 .1), ne-eqb _ 7 (c .match .rest .0 .0 .1), ne-eqb _ 8 (c .match .rest .0 .1), ne-eqb _ 9 (c .match .rest .1)) (nothing-written _ _)
 
 pub put-name-spec : {M : Type 1} → statement M
 put-name-spec =
@@ -134,6 +147,8 @@ put-name-spec =
     put-text-requires-7
     slice-aggregate-put-text-8
     put-text-requires-8
+    slice-aggregate-put-text-9
+    put-text-requires-9
     same-length
     returns
     same-length-2
@@ -150,4 +165,6 @@ put-name-spec =
     returns-7
     same-length-8
     returns-8
-    returns-9)
+    same-length-9
+    returns-9
+    returns-10)
