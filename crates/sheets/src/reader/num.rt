@@ -137,8 +137,8 @@ pub fn double(s: &[u8], at: usize) -> DoubleRead
 pub fn unsigned(s: &[u8], at: usize) -> DoubleRead
     ensures { λ r. ⌜ r ≡ unsignedDouble (readUnsigned (now (s .entry)) at) ⌝ }
 {
-    let b = byte(s, at);
-    if b == 45 {
+    let sign = byte(s, at);
+    if sign == 45 {
         return DoubleRead::Not;
     }
     double(s, at)
