@@ -60,6 +60,22 @@ fn totals(lines: usize) -> String {
     HEAD.to_string() + "(let casing (m 3.05))\n" + &(3..=lines).map(line).collect::<String>()
 }
 
+// Collars a kilometre from each other, each shown, and as many aparts behind them: 30 of 96 lines. What is left are shows of the first.
+fn aparts(lines: usize) -> String {
+    let names = lines * 30 / 96;
+    let mut text = HEAD.to_string();
+    for i in 0..lines - 1 {
+        let name = i % names;
+        text += &match i / names {
+            0 => format!("(let c{name:02} (geo (m 43{name:02}010) (m 600000) (m 4600000)))\n"),
+            1 => format!("(show c{name:02})\n"),
+            2 => format!("(apart 5.{name:02})\n"),
+            _ => "(show c00)\n".to_string(),
+        };
+    }
+    text
+}
+
 // A site's sheet of 96 lines with lines changed: what it is refused for, and at which line.
 fn refused() -> Vec<(String, (u32, u32))> {
     let site = site(96);
@@ -133,12 +149,13 @@ fn table(name: &str, make: fn(usize) -> String, best: &[Times; 4]) {
 }
 
 // The sorts of sheets.
-const SORTS: [(&str, fn(usize) -> String); 5] = [
+const SORTS: [(&str, fn(usize) -> String); 6] = [
     ("a site's sheet", site),
     ("one bracket a line", brackets),
     ("shows of readings", shows),
     ("shows of a frame", frames),
     ("shows and totals", totals),
+    ("collars and aparts", aparts),
 ];
 
 fn profile((name, make): (&str, fn(usize) -> String)) {
