@@ -24,7 +24,7 @@ extern "C" {
 #define BORESHEET_READINGS 16
 #define BORESHEET_OUT 24576
 
-/* The refusals, in the order in which they are tested. */
+/* The refusals, in the order in which they are tested; 7, 8 and 9 line by line, where the run meets them. */
 #define BORESHEET_SIZE 1
 #define BORESHEET_LENT 2
 #define BORESHEET_FORM 3
@@ -33,13 +33,15 @@ extern "C" {
 #define BORESHEET_KIND 6
 #define BORESHEET_LIMIT 7
 #define BORESHEET_CENTRE 8
+#define BORESHEET_APART 9
 
-/* Checks a sheet. Where it passes, kinds holds one kind code a line, 255 for line 1, and its later places are as they
- * were; where it is refused, all of kinds is as it was. */
+/* Checks a sheet. Where it passes, kinds holds one kind code a line, 255 for line 1 and 254 for an apart, and its later
+ * places are as they were; where it is refused, all of kinds is as it was. */
 uint32_t boresheet_check(const uint8_t *sheet, size_t sheet_len, uint8_t *kinds, size_t kinds_len, uint32_t *line);
 
 /* Checks a sheet and runs it. The text of its shows and totals is in the first *written bytes of out, the rest of out is as
- * it was; refusals 7 and 8 leave the text of the earlier lines. *written is set on every return. A reading may have any bits. */
+ * it was; refusals 7, 8 and 9 leave the text of the earlier lines. With 9, *line is the apart's, and two names shown before
+ * it are too close. *written is set on every return. A reading may have any bits. */
 uint32_t boresheet_run(const uint8_t *sheet, size_t sheet_len, const double *readings, size_t readings_len,
                        uint8_t *out, size_t out_len, uint32_t *line, uint64_t *written);
 
