@@ -24,5 +24,6 @@ pub mod AngleLaws
 pub mod NormalisedLaws
 pub mod VecLaws
 pub mod DifferenceLaws
+pub mod SquareLaws
 pub mod Examples
 pub mod Computed
