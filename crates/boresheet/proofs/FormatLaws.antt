@@ -16,7 +16,7 @@ use Rattle.sheets.specs.Grammar.{Each, sign, point, printNum, IsNum}
 use Rattle.sheets.specs.Limits.{numValue}
 use Rattle.sheets.specs.code.reader.Codes.{wordChar, digit}
 use Rattle.sheets.specs.code.reader.Reader.{Got, none, got, readNum}
-use Rattle.sheets.specs.code.reader.Views.{doubled}
+use Rattle.sheets.specs.code.reader.Views.{doubledBy, doubled}
 use Rattle.sheets.specs.declared.reader.num.DoubleRead.{DoubleRead}
 use Rattle.sheets.specs.declared.reader.num.DoubleRead.the-variants.{Is, Not}
 use Rattle.sheets.proofs.reader.Spans.{Spans, spans-append, spans-split, spans-end, spans-drop, drop-spans, holds-at}
@@ -108,7 +108,7 @@ module _ (s : List ℕ) where
   ended-complete x m h = rw (eq-eqb (getD s m 0) 10 h) refl
 
   doubled-sound : (at : ℕ) (x : Float) (m : ℕ) → doubled (readNum s at) ≡ Is x m → (q : Num) × IsNum q × Spans s (printNum q) at m × (x ≡ numValue q)
-  unfolding doubled
+  unfolding doubledBy
   doubled-sound at x m e = go (readNum s at) refl e
     where
       go : (o : Got Num) → readNum s at ≡ o → doubled o ≡ Is x m → (q : Num) × IsNum q × Spans s (printNum q) at m × (x ≡ numValue q)
@@ -160,7 +160,7 @@ module _ (s : List ℕ) where
   -- a line that stands there is read
   line-complete : (at : ℕ) (t r : List ℕ) (x : Float) → drop at s ≡ t ⌢ lf ⌢ r → Line t x
       → (n : ℕ) × (readingAt s at ≡ Is x n) × (drop n s ≡ r) × (at < length s) × (n ≤ length s)
-  unfolding readingAt hexAt orElse doubled Spans
+  unfolding readingAt hexAt orElse doubledBy Spans
   line-complete at t r x e l =
       let (p, d) = drop-spans s t (10 ∷ r) at e in
       let (p10, d10) = drop-spans s (10 ∷ []) r (at + length t) d in

@@ -8,9 +8,13 @@ use mathlib.Core.List.{List}
 use lib.Dec.{eqb, ltb}
 use lib.ListN.{getD}
 use lib.Ieee as Ieee
-use lib.Ieee.{Float}
+use lib.Ieee.{Float, binary64}
+use lib.Ieee.Fits.{add-fits}
 use borrow.Author.Tests.{eq-eqb, ne-eqb, eqb-true, eqb-false, ltb-true, ltb-false}
-use Rattle.numbers.specs.Vec.{norm, vecSub}
+use Rattle.numbers.specs.Ops.{_⊗_}
+use Rattle.numbers.specs.Vec.{squaredNorm, norm, vecSub}
+use Rattle.numbers.proofs.FitLaws.{Fits}
+use Rattle.numbers.proofs.SquareLaws.{square-decides}
 use Rattle.numbers.specs.declared.Vec3.{Vec3}
 use Rattle.frames.specs.declared.GeocentricPosition.{GeocentricPosition}
 use Rattle.sheets.specs.declared.Evaluated.{Evaluated}
@@ -37,6 +41,10 @@ module _ (least : Float) (f : List Float) (js : List ℕ) where
     pub clear-shown : getD js j 0 ≡ 1 → Ieee.le least (norm (vecSub v (metresAt f j))) ≡ clearAt least v f js j
     unfolding clearAt
     clear-shown h = rw (eq-eqb (getD js j 0) 1 h) refl
+
+    -- where the squares decide
+    pub clear-squared : getD js j 0 ≡ 1 → Fits least → (s : Float) → s ≡ squaredNorm (vecSub v (metresAt f j)) → Ieee.lt (least ⊗ least) s ≡ true → true ≡ clearAt least v f js j
+    clear-squared h fl s es l = sym (square-decides least (squaredNorm (vecSub v (metresAt f j))) fl (add-fits binary64 _ _) (ap (Ieee.lt (least ⊗ least)) (sym es) ∙ l)) ∙ clear-shown h
 
     pub clear-unshown : (getD js j 0 ≡ 1 → ⊥) → true ≡ clearAt least v f js j
     unfolding clearAt

@@ -5,14 +5,18 @@ ghost use mathlib.Core.Path.{_≡_};
 ghost use Prim.Native.Nat.{_≤_};
 ghost use Rattle.sheets.specs.code.run.Standing.{clearAt, clearBelow, apartBelow};
 
-// Whether the name at a place, if it was shown, is at least so far from v.
+// Whether the name at a place, if it was shown, is at least so far from v. Where the square of its distance is greater the root is not taken: it would say the same (`square-decides` of numbers).
 fn is_clear(least: f64, v: Vec3, place: usize, floats: &[f64; 2940], shown: &[u8; 96]) -> bool
     requires { ⌜ place ≤ 95 ⌝ }
     ensures { λ r. ⌜ r ≡ clearAt least v (now (floats .entry)) (now (shown .entry)) place ⌝ }
 {
     if shown[place] == 1 {
         let w = position_at(floats, 21 * place).as_metres();
-        return least <= v.sub(w).norm();
+        let between = v.sub(w);
+        if least * least < between.squared_norm() {
+            return true;
+        }
+        return least <= between.norm();
     }
     true
 }

@@ -1,10 +1,12 @@
 -- `sheets::run::apart::is_clear` meets its contract. Assumes nothing.
 use native.Mathlib.Omega.{arith}
-use mathlib.Core.Path.{ap, _∙_}
+use mathlib.Core.Path.{sym, ap, subst, _∙_}
+use lib.Dec.{T}
 use lib.Ieee as Ieee
-use Rattle.numbers.specs.Vec.{norm, vecSub}
+use Rattle.numbers.specs.Vec.{squaredNorm, norm, vecSub}
+use Rattle.numbers.proofs.FitLaws.{Fits}
 use Rattle.frames.specs.Positions.{geocentricAsMetres}
-use Rattle.sheets.proofs.run.StandLaws.{clear-shown, clear-unshown}
+use Rattle.sheets.proofs.run.StandLaws.{clear-shown, clear-squared, clear-unshown}
 use borrow.Author.Needs.{needs}
 use Rattle.sheets.proofs.run.apart.is_clear.Statement.{statement}
 use Rattle.sheets.proofs.run.apart.is_clear.Tie as tie
@@ -24,14 +26,24 @@ as-metres-requires c κs = search needs
 sub-requires : tie.Need-sub-requires
 sub-requires c κs = search needs
 
+squared-norm-requires : tie.Need-squared-norm-requires
+squared-norm-requires c κs = search needs
+
+-- `least` is a double
+held : (c : tie.Start) → Fits (c .args .least)
+held c = subst T (sym (c .good .0 .1)) tt
+
+returns : tie.Need-returns
+returns c = clear-squared _ _ _ _ _ (c .before .before .before .before .before .if1 .taken) (held (c .before .before .before .before .before .before .before)) _ (c .before .squared-norm .ensures ∙ ap squaredNorm (c .before .before .sub .ensures ∙ ap (vecSub _) (c .before .before .before .as-metres .ensures ∙ ap geocentricAsMetres (c .before .before .before .before .position-at .ensures)))) (c .if2 .taken)
+
 norm-requires : tie.Need-norm-requires
 norm-requires c κs = search needs
 
-returns : tie.Need-returns
-returns c = ap (Ieee.le _) (c .norm .ensures ∙ ap norm (c .before .sub .ensures ∙ ap (vecSub _) (c .before .before .as-metres .ensures ∙ ap geocentricAsMetres (c .before .before .before .position-at .ensures)))) ∙ clear-shown _ _ _ _ _ (c .before .before .before .before .if1 .taken)
-
 returns-2 : tie.Need-returns-2
-returns-2 c = clear-unshown _ _ _ _ _ (c .if1 .left)
+returns-2 c = ap (Ieee.le _) (c .norm .ensures ∙ ap norm (c .before .before .before .sub .ensures ∙ ap (vecSub _) (c .before .before .before .before .as-metres .ensures ∙ ap geocentricAsMetres (c .before .before .before .before .before .position-at .ensures)))) ∙ clear-shown _ _ _ _ _ (c .before .before .before .before .before .before .if1 .taken)
+
+returns-3 : tie.Need-returns-3
+returns-3 c = clear-unshown _ _ _ _ _ (c .if1 .left)
 
 pub is-clear-spec : {M : Type 1} → statement M
 is-clear-spec =
@@ -42,6 +54,8 @@ is-clear-spec =
     position-at-requires
     as-metres-requires
     sub-requires
-    norm-requires
+    squared-norm-requires
     returns
-    returns-2)
+    norm-requires
+    returns-2
+    returns-3)
