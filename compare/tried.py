@@ -147,7 +147,7 @@ def order():
 
 
 def stopping():
-    """Refusals 7 and 8 leave the text of the earlier shows."""
+    """Refusals 7 and 8 leave the text of the earlier shows; 9 is in tried_aparts.py."""
     one = shown("a", "n", 1.0)
     begin = [WGS84, "(let a 1)", "(show a)"]
     yield stops(begin + ["(let b 100000001)", "(show a)"], "n n n n", 7, 4, one)

@@ -169,7 +169,7 @@ def places():
 
 
 def beside_refusals():
-    """With every other refusal; 7 and 8 leave a total's text as any other."""
+    """With every other refusal; 7, 8 and 9 leave a total's text as any other."""
     lines, text = given("2") + ["(show a)", TOTAL], length("a", 2.0) + total(2.0)
     yield refused(["(ellipsoid 1 1)", TOTAL], 4, 1)
     yield refused(lines + ["(show b)", TOTAL], 5, 5)

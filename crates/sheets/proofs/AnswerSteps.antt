@@ -27,6 +27,7 @@ use Rattle.sheets.proofs.Sound.{agree}
 use Rattle.sheets.proofs.ClaimHolds.{unstuck, claim}
 use Rattle.sheets.proofs.TotalsHold.{totals-add-up}
 use Rattle.sheets.proofs.ApartsHold.{stand-apart}
+use Rattle.sheets.proofs.Bools.{not-once}
 use Rattle.sheets.proofs.ConfinedHolds.{list-confined, output-confined}
 use Rattle.sheets.proofs.reader.SheetLaws.{reader-reads}
 use Rattle.sheets.specs.Claim.{All}
@@ -52,14 +53,6 @@ judged l s = verdict l s (readSheet s)
 checks-by : (s kinds : List ℕ) (v : Verdict) → judged (lentKinds kinds) s ≡ v → (r : CheckAnswer) (kinds′ : List ℕ) → r ≡ checkOf v → kinds′ ≡ kindsOfVerdict v kinds → CheckOwes s kinds r kinds′
 checks-by s kinds v e r kinds′ er ek = record { form-is = readSheet s; grammar = reader-reads s; answer = er ∙ ap checkOf (sym e); left = ek ∙ ap (λ w. kindsOfVerdict w kinds) (sym e) }
 
-yes : (t : Bool) → not t ≡ false → t ≡ true
-yes true e = refl
-yes false e = let z : _≡_ {A = ℕ} 0 1 = cc in absurd (omega arith)
-
-nay : (t : Bool) → not t ≡ true → t ≡ false
-nay true e = let z : _≡_ {A = ℕ} 0 1 = cc in absurd (omega arith)
-nay false e = refl
-
 pub few-lines : (s : List ℕ) (v : Verdict) (a : Admission) → Admits s v a → (n : ℕ) (d : Ellipsoid) (at : ℕ) → a .outcome ≡ Outcome.Passes n d at → n ≤ 96
 unfolding Admits
 few-lines s (admitted c cs) a (m, eh, el, p) n d at e = let o = p .0 in let l = p .1 in let i : n ≡ length cs = cc in omega arith
@@ -68,11 +61,11 @@ few-lines s (refused r i) a o n d at e = let z : _≡_ {A = ℕ} 0 1 = cc in abs
 module _ (s : List ℕ) (b : Bool) (eb : b ≡ sized s) where
   too-large : not b ≡ true → (l : Bool) → judged l s ≡ refused size 0
   unfolding verdict
-  too-large h l = ap (λ t. ofSize t l (readSheet s)) (sym eb ∙ nay b h)
+  too-large h l = ap (λ t. ofSize t l (readSheet s)) (sym eb ∙ not-once b true h)
 
   within-size : not b ≡ false → (l : Bool) → judged l s ≡ ofLent l (readSheet s)
   unfolding verdict
-  within-size h l = ap (λ t. ofSize t l (readSheet s)) (sym eb ∙ yes b h)
+  within-size h l = ap (λ t. ofSize t l (readSheet s)) (sym eb ∙ not-once b false h)
 
   module _ (kinds : List ℕ) where
     pub check-size : not b ≡ true → CheckOwes s kinds (record { number = 1; line = 0 }) kinds

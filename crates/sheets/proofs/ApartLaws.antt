@@ -3,13 +3,12 @@ use mathlib.Core.Path.{_≡_, refl, sym, ap, ap₂, _∙_}
 use mathlib.Core.Logic.{_⊎_, inl, inr}
 use mathlib.Core.List.{List, [], _∷_, _++_}
 use mathlib.Core.Option.{Option, none, some}
-use mathlib.Core.Bool.{Bool, true, false, _&&_, _||_, true≢false, false≢true}
+use mathlib.Core.Bool.{Bool, true, false, _||_, true≢false}
 use Prim.Native.Nat.{ℕ}
 use native.Mathlib.Omega.{arith}
-use lib.Dec.{eqb}
 use lib.Ieee as Ieee
 use lib.Ieee.{Float}
-use borrow.Author.Tests.{eq-eqb, ne-eqb, eqb-true, eqb-false}
+use borrow.Author.Tests.{eq-eqb, ne-eqb}
 use Rattle.numbers.proofs.DifferenceLaws.{norm-difference}
 use Rattle.frames.specs.Positions.{geocentricAsMetres}
 use Rattle.frames.specs.declared.GeocentricPosition.{GeocentricPosition}
@@ -22,6 +21,7 @@ use Rattle.sheets.specs.Aparts.{Fix, fixThen, fixes, distance, clear, cl
 use Rattle.sheets.specs.Admitted.{In}
 use Rattle.sheets.proofs.run.KnownLaws.{eqb-comm}
 use Rattle.sheets.proofs.ByCases.{by-cases}
+use Rattle.sheets.proofs.Bools.{and-both, and-some}
 
 -- ---- two positions, in either order
 
@@ -44,14 +44,6 @@ pub not-clear : (least : Float) (a b : Fix) → clear least a b ≡ false → ¬
 not-clear least a b h e = true≢false (sym (clear-one least a b e) ∙ h)
 
 -- ---- every two, and some two
-
-pub and-both : (a b : Bool) → (a && b) ≡ true → (a ≡ true) × (b ≡ true)
-and-both true b e = (refl, e)
-and-both false b e = absurd (false≢true e)
-
-pub and-some : (a b : Bool) → (a && b) ≡ false → (a ≡ false) ⊎ (b ≡ false)
-and-some true b e = inr e
-and-some false b e = inl refl
 
 module _ (least : Float) where
   clear-of : (a : Fix) (fs : List Fix) → clearOf least a fs ≡ true → (b : Fix) → In b fs → clear least a b ≡ true
@@ -115,17 +107,17 @@ shown-fix (shown j h ∷ es) i g p (inr k) ev = go (held 𝐠 (h .value)) (shown
     go (some q) m = inr m
 shown-fix (summed t ∷ es) i g p (inr k) ev = shown-fix es i g p k ev
 
-abbrev ShownAs : List Entry → Fix → Type 0
-ShownAs es x = (i : ℕ) × (g : Given Value) × In (shown i g) es × (g .line ≡ x .line) × (g .value ≡ Geocentric (x .position))
+abbrev ShowOf : List Entry → Fix → Type 0
+ShowOf es x = (i : ℕ) × (g : Given Value) × In (shown i g) es × (g .line ≡ x .line) × (g .value ≡ Geocentric (x .position))
 
-pub fix-shown : (es : List Entry) (x : Fix) → In x (fixes es) → ShownAs es x
+pub fix-shown : (es : List Entry) (x : Fix) → In x (fixes es) → ShowOf es x
 unfolding fixes
 fix-shown (shown j h ∷ es) x m = go (held 𝐠 (h .value)) refl (fix-shown es x) m
   where
-    later : ShownAs es x → ShownAs (shown j h ∷ es) x
+    later : ShowOf es x → ShowOf (shown j h ∷ es) x
     later (i, g, k, e, ev) = (i, g, inr k, e, ev)
 
-    go : (o : Option GeocentricPosition) → held 𝐠 (h .value) ≡ o → (In x (fixes es) → ShownAs es x) → In x (fixThen (h .line) o (fixes es)) → ShownAs (shown j h ∷ es) x
+    go : (o : Option GeocentricPosition) → held 𝐠 (h .value) ≡ o → (In x (fixes es) → ShowOf es x) → In x (fixThen (h .line) o (fixes es)) → ShowOf (shown j h ∷ es) x
     go none eo ih m = later (ih m)
     go (some q) eo ih (inl e) = (j, h, inl refl, sym (ap (λ (f : Fix). f .line) e), held-position (h .value) q eo ∙ ap Geocentric (sym (ap (λ (f : Fix). f .position) e)))
     go (some q) eo ih (inr m) = later (ih m)

@@ -23,11 +23,11 @@ use Rattle.sheets.specs.Entries.{Entry, shown, summed, total}
 use Rattle.sheets.specs.Aparts.{Fix, fixes, standApart}
 use Rattle.sheets.specs.Refusals.{limit, centre, apart, name, kind, stop, refusalNumber, Checked, fine, bad}
 use Rattle.sheets.specs.Writes.{Writes, a-show, a-total, nothing, writes}
-use Rattle.sheets.specs.Machine.{Out, goes, stops, sticks, after, then, orSticks, test, met, meet, made, result, provided, applyRow, eval, evals, State, heldApart, step, Ran, done, stopped, stuck, afterwards, onward, steps, start, machine}
+use Rattle.sheets.specs.Machine.{Out, goes, stops, sticks, after, then, orSticks, test, met, meet, made, result, provided, applyRow, eval, evals, State, heldApart, step, Ran, done, stopped, stuck, lastState, afterwards, onward, steps, start, machine}
 use Rattle.sheets.specs.Admitted.{In}
 use Rattle.sheets.specs.Check.{Walked, passes, refuses, walk}
 use Rattle.sheets.specs.Answers.{sized, ranged, Verdict, admitted, refused, ofWalked, ofRange, ofForm, ofSize, verdict, RunAnswer, RunOf, Tells, lentRun, RunOwes}
-use Rattle.sheets.specs.Collars.{AsksOn, ShownBefore, farEnough, entriesOf, StandApart}
+use Rattle.sheets.specs.Collars.{AsksOn, ShownBefore, farEnough, StandApart}
 use Rattle.sheets.proofs.Members.{in-either}
 use Rattle.sheets.proofs.ApartLaws.{clear-two, not-clear, every-two, some-two, shown-fix, fix-shown}
 use Rattle.sheets.proofs.LineWrites.{Left, Wrote, line-wrote}
@@ -37,17 +37,17 @@ use Rattle.sheets.proofs.reader.FormLaws.{same-sheet}
 
 -- ---- the entries of the lines before line i
 
-abbrev Shows : List Entry → ℕ → Type 0
-Shows es i = (j : ℕ) (g : Given Value) → In (shown j g) es → j < i
+abbrev ShownBelow : List Entry → ℕ → Type 0
+ShownBelow es i = (j : ℕ) (g : Given Value) → In (shown j g) es → j < i
 
--- what was shown before line i is there after it too, and nothing that it shows was shown before
+-- after line i all that is shown was shown up to it, and what was shown before it was there already
 abbrev Grown : ℕ → State → State → Type 0
-Grown i s t = Shows (t .entries) (suc i) × ((j : ℕ) (g : Given Value) → In (shown j g) (t .entries) → j < i → In (shown j g) (s .entries))
+Grown i s t = ShownBelow (t .entries) (suc i) × ((j : ℕ) (g : Given Value) → In (shown j g) (t .entries) → j < i → In (shown j g) (s .entries))
 
-later : (i j : ℕ) (es : List Entry) (g : Given Value) → Shows es i → In (shown j g) es → j < suc i
+later : (i j : ℕ) (es : List Entry) (g : Given Value) → ShownBelow es i → In (shown j g) es → j < suc i
 later i j es g h k = omega (arith, h j g k)
 
-one-more : (i : ℕ) (s t : State) (w : Writes) → Shows (s .entries) i → Wrote i s w t → Grown i s t
+one-more : (i : ℕ) (s t : State) (w : Writes) → ShownBelow (s .entries) i → Wrote i s w t → Grown i s t
 one-more i s t nothing h e = ((λ j g k. later i j (s .entries) g h (subst (In (shown j g)) e k)), (λ j g k l. subst (In (shown j g)) e k))
 one-more i s t (a-show w) h (n, ew, e) = ((λ j g k. go j g (subst (In (shown j g)) e k)), (λ j g k l. before j g l (subst (In (shown j g)) e k)))
   where
@@ -168,14 +168,14 @@ decided i s (apart-line q) = go (inLimit (Number (numValue (signless q)))) (stan
 
 -- ---- a run from line i on, in the state s
 
--- these entries were shown before line k, and all that were
+-- of `all`, what was shown before line k is among es
 abbrev Before : List Entry → ℕ → List Entry → Type 0
 Before all k es = (j : ℕ) (g : Given Value) → In (shown j g) all → j < k → In (shown j g) es
 
 abbrev Ended : ℕ → State → List Line → Ran → Type 0
 Ended i s ls (done fs t) = Before (t .entries) i (s .entries)
     × ((k : ℕ) (q : Unsigned) → In (k, apart-line q) (numbered i ls) → (es : List Entry) × (standApart (numValue (signless q)) (fixes es) ≡ true) × Before (t .entries) k es)
-Ended i s ls (stopped fs r k t) = r ≡ apart → (q : Unsigned) × In (k, apart-line q) (numbered i ls) × (standApart (numValue (signless q)) (fixes (t .entries)) ≡ false) × Shows (t .entries) k
+Ended i s ls (stopped fs r k t) = r ≡ apart → (q : Unsigned) × In (k, apart-line q) (numbered i ls) × (standApart (numValue (signless q)) (fixes (t .entries)) ≡ false) × ShownBelow (t .entries) k
 Ended i s ls (stuck fs k t) = Unit {0}
 
 goes-on : (i : ℕ) (s t : State) (l : Line) (ls : List Line) (fs : List LocalFrame) (r : Ran) → Holding s l → Grown i s t → Ended (suc i) t ls r → Ended i s (l ∷ ls) (afterwards fs r)
@@ -193,12 +193,12 @@ goes-on i s t l ls fs (done hs u) h w (old, all) = (before, aparts)
 goes-on i s t l ls fs (stopped hs r k u) h w e = λ a. let (q, m, b, c) = e a in (q, inr m, b, c)
 goes-on i s t l ls fs (stuck hs k u) h w e = tt
 
-ends : (ls : List Line) (i : ℕ) (s : State) → Shows (s .entries) i → Ended i s ls (steps (numbered i ls) s)
+ends : (ls : List Line) (i : ℕ) (s : State) → ShownBelow (s .entries) i → Ended i s ls (steps (numbered i ls) s)
 unfolding steps
 ends [] i s h = ((λ j g k l. k), (λ k q m. absurd m))
 ends (l ∷ ls) i s h = go (step i s l) (line-wrote i s l) (decided i s l) (λ t w. ends ls (suc i) t w)
   where
-    go : (o : Out State) → Left (Wrote i s (writes l)) o → Decided s l o → ((t : State) → Shows (t .entries) (suc i) → Ended (suc i) t ls (steps (numbered (suc i) ls) t))
+    go : (o : Out State) → Left (Wrote i s (writes l)) o → Decided s l o → ((t : State) → ShownBelow (t .entries) (suc i) → Ended (suc i) t ls (steps (numbered (suc i) ls) t))
         → Ended i s (l ∷ ls) (onward o i s (λ t. steps (numbered (suc i) ls) t))
     go (goes fs t) w d on = let g = one-more i s t (writes l) h w in goes-on i s t l ls fs (steps (numbered (suc i) ls) t) d g (on t (g .0))
     go (stops fs r) w d on = λ a. let (q, e, b) = d a in (q, inl (ap (λ (l : Line). (i, l)) (sym e)), b, h)
@@ -210,7 +210,7 @@ machine-ends c R = ends (c .lines) 2 (start (c .head) R) (λ j g k. absurd k)
 
 -- ---- the sentences, by what the machine came to
 
--- two names that were shown before line k
+-- the name of the let on line i, at a position
 abbrev fixOf : ℕ → GeocentricPosition → Fix
 fixOf i a = record { line = i; position = a }
 
@@ -223,7 +223,7 @@ far-apart all es k q h b4 i j a b x y n =
     sym (clear-two (numValue (signless q)) (fixOf i a) (fixOf j b) n)
     ∙ every-two (numValue (signless q)) (fixes es) h (fixOf i a) (fixOf j b) (shown-in all es k i a b4 x) (shown-in all es k j b b4 y)
 
-close-pair : (es : List Entry) (k : ℕ) (q : Unsigned) → standApart (numValue (signless q)) (fixes es) ≡ false → Shows es k
+close-pair : (es : List Entry) (k : ℕ) (q : Unsigned) → standApart (numValue (signless q)) (fixes es) ≡ false → ShownBelow es k
     → (i j : ℕ) × (a b : GeocentricPosition) × ShownBefore es k i a × ShownBefore es k j b × ¬ (i ≡ j) × (farEnough q a b ≡ false)
 close-pair es k q h s =
     let (x, y, ix, iy, c) = some-two (numValue (signless q)) (fixes es) h in
@@ -236,13 +236,13 @@ close-pair es k q h s =
 -- of what the machine came to, and what the run told of it
 module _ (c : Sheet) (R : List Float) (out : List ℕ) (r : RunAnswer) (out′ : List ℕ) where
   ran-passes : (m : Ran) → Ended 2 (start (c .head) R) (c .lines) m → Tells m out r out′ → r .number ≡ 0 → (k : ℕ) (q : Unsigned) → AsksOn c k q → (i j : ℕ) (a b : GeocentricPosition)
-      → ShownBefore (entriesOf m) k i a → ShownBefore (entriesOf m) k j b → ¬ (i ≡ j) → farEnough q a b ≡ true
+      → ShownBefore (lastState m .entries) k i a → ShownBefore (lastState m .entries) k j b → ¬ (i ≡ j) → farEnough q a b ≡ true
   ran-passes (done fs t) (old, all) h n = λ k q ask. let (es, e, b) = all k q ask in far-apart (t .entries) es k q e b
   ran-passes (stopped fs s l t) h (e, o) n = absurd (omega (arith, refusal-some (stop s), ap (λ (r : RunAnswer). r .number) e))
   ran-passes (stuck fs l t) h x n = absurd x
 
   ran-breaks : (m : Ran) → Ended 2 (start (c .head) R) (c .lines) m → Tells m out r out′ → r .number ≡ 9 → (q : Unsigned) × AsksOn c (r .line) q × ((i j : ℕ) × (a b : GeocentricPosition)
-      × ShownBefore (entriesOf m) (r .line) i a × ShownBefore (entriesOf m) (r .line) j b × ¬ (i ≡ j) × (farEnough q a b ≡ false))
+      × ShownBefore (lastState m .entries) (r .line) i a × ShownBefore (lastState m .entries) (r .line) j b × ¬ (i ≡ j) × (farEnough q a b ≡ false))
   ran-breaks (done fs t) h (e, o) n = absurd (omega (arith, ap (λ (r : RunAnswer). r .number) e))
   ran-breaks (stopped fs limit l t) h (e, o) n = absurd (omega (arith, ap (λ (r : RunAnswer). r .number) e))
   ran-breaks (stopped fs centre l t) h (e, o) n = absurd (omega (arith, ap (λ (r : RunAnswer). r .number) e))

@@ -17,9 +17,8 @@ use Rattle.sheets.specs.Letters.{𝐥, held}
 use Rattle.sheets.specs.Table.{table}
 use Rattle.sheets.specs.Entries.{Entry, shown, summed, entryValue, plus, sumFrom, total}
 use Rattle.sheets.specs.Limits.{numValue}
-use Rattle.sheets.specs.Machine.{machine}
+use Rattle.sheets.specs.Machine.{machine, lastState}
 use Rattle.sheets.specs.Claim.{All, framesMade}
-use Rattle.sheets.proofs.LineWrites.{lastState}
 use Rattle.sheets.proofs.Trace.{Keeps, good-ran}
 
 abbrev pub Good : Value → Type 0

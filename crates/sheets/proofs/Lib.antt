@@ -5,6 +5,7 @@ pub mod Agree
 pub mod Sound
 pub mod LineWrites
 pub mod Members
+pub mod Bools
 pub mod ApartLaws
 pub mod Trace
 pub mod EveryFrame

@@ -14,7 +14,7 @@ use Rattle.sheets.specs.Scopes.{give}
 use Rattle.sheets.specs.Entries.{shown, summed, total}
 use Rattle.sheets.specs.Limits.{numValue}
 use Rattle.sheets.specs.Aparts.{fixes, standApart}
-use Rattle.sheets.specs.Machine.{Out, goes, stops, sticks, after, then, met, meet, eval, State, orSticks, step, Ran, done, stopped, stuck, afterwards, heldApart}
+use Rattle.sheets.specs.Machine.{Out, goes, stops, sticks, after, then, met, meet, eval, State, orSticks, step, Ran, done, stopped, stuck, afterwards, heldApart, lastState}
 use Rattle.sheets.specs.Writes.{Writes, a-show, a-total, nothing, writes}
 
 -- what holds of the result of a step that goes on
@@ -63,11 +63,6 @@ line-named total-line h = h .0 .0
 line-named (apart-line q) h = tt
 
 -- ---- the state in which a run came to its end
-abbrev pub lastState : Ran → State
-lastState (done fs s) = s
-lastState (stopped fs r i s) = s
-lastState (stuck fs i s) = s
-
 pub last-after : (fs : List LocalFrame) (r : Ran) → lastState (afterwards fs r) ≡ lastState r
 last-after fs (done hs s) = refl
 last-after fs (stopped hs c i s) = refl

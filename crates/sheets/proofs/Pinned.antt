@@ -1,6 +1,7 @@
--- The frames made and the names given, which the claim speaks of, by computation over sheets that pin them. Assumes nothing.
+-- The frames made and the names given, which the claim speaks of, and the shows, which request Three's sentences speak of, by computation over sheets that pin them. Assumes nothing.
 use mathlib.Core.Path.{_≡_, refl, subst}
 use mathlib.Core.List.{List, [], _∷_, map}
+use mathlib.Core.Option.{Option, none, some}
 use Prim.Native.Nat.{ℕ}
 use Prim.Native.String.{String}
 use Rattle.frames.specs.declared.LocalFrame.{LocalFrame}
@@ -10,9 +11,10 @@ use Rattle.sheets.specs.Text.{ascii}
 use Rattle.sheets.specs.Trees.{Sheet}
 use Rattle.sheets.specs.Grammar.{Written, Form, formed, badLine, Reads}
 use Rattle.sheets.specs.Names.{Given, givenOn}
-use Rattle.sheets.specs.Kinds.{Kind, kindOf, geodetic, vector, frame}
+use Rattle.sheets.specs.Kinds.{Kind, kindOf, number, geodetic, vector, frame}
 use Rattle.frames.specs.declared.Orientation.the-variants.{Enu, Ned, Wan}
 use Rattle.sheets.specs.Output.{outputLine}
+use Rattle.sheets.specs.Entries.{Entry, shown, summed}
 use Rattle.sheets.specs.Refusals.{limit}
 use Rattle.sheets.specs.Machine.{Ran, done, stopped, stuck, machine}
 use Rattle.sheets.specs.Claim.{namesGiven, framesMade}
@@ -42,6 +44,16 @@ abbrev LimitAt : ℕ → Ran → Type 0
 LimitAt j (done fs s) = ⊥
 LimitAt j (stopped fs r i s) = (r ≡ limit) × (i ≡ j)
 LimitAt j (stuck fs i s) = ⊥
+
+-- it ends, and these are its shows: the line of each, and the name that it shows, with its let's line
+abbrev showOf : Entry → Option (ℕ × Given Kind)
+showOf (shown i g) = some (i, seen g)
+showOf (summed t) = none
+
+abbrev Shows : List (ℕ × Given Kind) → Ran → Type 0
+Shows ns (done fs s) = map showOf (s .entries) ≡ map some ns
+Shows ns (stopped fs r i s) = ⊥
+Shows ns (stuck fs i s) = ⊥
 
 -- the machine over a sheet ends so, and made these frames, the first first, and gave these names, the newest first
 abbrev Pinned : (Ran → Type 0) → List String → List (Given Kind) → Ran → Type 0
@@ -88,6 +100,11 @@ pub record PinnedSheets (Q : String → (Ran → Type 0) → List String → Lis
       ("f fenu 0000000000000000 0000000000000000 4158392c00000000 bff0000000000000 0000000000000000 0000000000000000 0000000000000000 bff0000000000000 0000000000000000 0000000000000000 0000000000000000 3ff0000000000000\n"
       ∷ "f fbody 0000000000000000 0000000000000000 41995b16c0000000 0000000000000000 bff0000000000000 0000000000000000 bff0000000000000 0000000000000000 0000000000000000 0000000000000000 0000000000000000 bff0000000000000\n" ∷ [])
       (aName 2 "e" (frame Enu) ∷ [])
+  -- a show keeps its own line and that of the let which gave the name
+  pub shown-twice : Q "(ellipsoid wgs84)\n(let a 1)\n(let b a)\n(show b)\n(show a)\n(show b)\n(show r3)\n"
+      (Shows ((4, aName 3 "b" number) ∷ (5, aName 2 "a" number) ∷ (6, aName 3 "b" number) ∷ (7, aName 0 "r3" number) ∷ []))
+      []
+      (aName 3 "b" number ∷ aName 2 "a" number ∷ [])
 
 read : PinnedSheets PinsRead
 unfolding computed
@@ -95,7 +112,8 @@ read = record {
   pole = record { is = (tt, refl, refl) };
   nested = record { is = (tt, refl, refl) };
   refused-frame = record { is = ((refl, refl), refl, refl) };
+  shown-twice = record { is = (refl, refl, refl) };
 }
 
 pub pinned-sheets : PinnedSheets Pins
-pinned-sheets = record { pole = pins (read .pole); nested = pins (read .nested); refused-frame = pins (read .refused-frame) }
+pinned-sheets = record { pole = pins (read .pole); nested = pins (read .nested); refused-frame = pins (read .refused-frame); shown-twice = pins (read .shown-twice) }

@@ -15,15 +15,15 @@ use Rattle.sheets.specs.Trees.{Line, Sheet, numbered}
 use Rattle.sheets.specs.Grammar.{IsWord, AreLines, IsSheet, after as afterPhase, Written}
 use Rattle.sheets.specs.Letters.{𝐥, held}
 use Rattle.sheets.specs.Entries.{Entry, shown, summed, entryName, entryValue, entryLines, plus, total}
-use Rattle.sheets.specs.Machine.{Out, goes, stops, sticks, State, step, Ran, done, stopped, stuck, onward, steps, start, machine}
+use Rattle.sheets.specs.Machine.{Out, goes, stops, sticks, State, step, Ran, done, stopped, stuck, onward, steps, start, machine, lastState}
 use Rattle.sheets.specs.Answers.{Verdict, admitted, refused, verdict, RunAnswer, Tells, RunOf, lentRun, RunOwes}
 use Rattle.sheets.specs.Claim.{All}
 use Rattle.sheets.specs.Writes.{Writes, a-show, a-total, nothing, writes}
 use Rattle.sheets.specs.Totals.{cut, textLines, AddUp, TotalsAddUp}
 use Rattle.sheets.proofs.reader.FormLaws.{same-sheet}
-use Rattle.sheets.proofs.LineWrites.{Left, Wrote, line-wrote, Named, line-named, lastState, last-after}
+use Rattle.sheets.proofs.LineWrites.{Left, Wrote, line-wrote, Named, line-named, last-after}
 use Rattle.sheets.proofs.run.TextBound.{ranText}
-use Rattle.sheets.proofs.run.EntryLaws.{total-show, total-total}
+use Rattle.sheets.proofs.run.SumLaws.{total-show, total-total}
 use Rattle.sheets.proofs.ConfinedHolds.{LentSays, lent-says}
 use Rattle.sheets.proofs.EveryFrame.{Good, every-shown}
 use Rattle.sheets.proofs.TotalText.{bare, value-reads, entries-cut}

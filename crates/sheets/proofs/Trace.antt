@@ -20,9 +20,8 @@ use Rattle.sheets.specs.Entries.{Entry, shown, summed, entryValue, total
 use Rattle.sheets.specs.Scopes.{giveIf}
 use Rattle.sheets.specs.Limits.{numValue, inLimit}
 use Rattle.sheets.specs.Aparts.{fixes, standApart}
-use Rattle.sheets.specs.Machine.{Out, goes, stops, sticks, after, then, test, met, meet, made, result, provided, applyRow, eval, evals, State, rescoped, write, step, Ran, done, stopped, stuck, afterwards, onward, steps, readings, start, machine, heldApart}
+use Rattle.sheets.specs.Machine.{Out, goes, stops, sticks, after, then, test, met, meet, made, result, provided, applyRow, eval, evals, State, rescoped, write, step, Ran, done, stopped, stuck, afterwards, onward, steps, readings, start, machine, heldApart, lastState}
 use Rattle.sheets.specs.Claim.{All, framesMade}
-use Rattle.sheets.proofs.LineWrites.{lastState}
 
 each-append : {A : Type 0} (P : A → Type 0) (xs ys : List A) → All P xs → All P ys → All P (xs ++ ys)
 each-append P [] ys h k = k

@@ -10,6 +10,7 @@ use Rattle.sheets.proofs.Starred.{Runs, Computes, runs, Checks, checks}
 pub record TriedAparts (P : String → List Float → ℕ → ℕ → String → Type 0) : Type 0 where
   -- fewer than two names never break the rule
   pub nothing-shown : P "(ellipsoid wgs84)\n(apart 5)\n" [] 0 0 ""
+  -- nor does a name that is not shown
   pub one-name : P "(ellipsoid wgs84)\n(let a (geo (m 3) (m 4) (m 0)))\n(let o (geo (m 0) (m 0) (m 0)))\n(show a)\n(apart 100000000)\n" [] 0 0 "a g 4008000000000000 4010000000000000 0000000000000000\n"
   -- two at one place stand at least 0 metres apart, and no more
   pub at-zero : P "(ellipsoid wgs84)\n(let o (geo (m 0) (m 0) (m 0)))\n(let b o)\n(show o)\n(show b)\n(apart 0)\n" [] 0 0 "o g 0000000000000000 0000000000000000 0000000000000000\nb g 0000000000000000 0000000000000000 0000000000000000\n"
@@ -24,8 +25,10 @@ pub record TriedAparts (P : String → List Float → ℕ → ℕ → String →
   pub by-norm : P "(ellipsoid wgs84)\n(let a (geo (m 79.5) (m 28.16) (m 0)))\n(let o (geo (m 0) (m 0) (m 0)))\n(show a)\n(show o)\n(apart 84.34)\n" [] 0 0 "a g 4053e00000000000 403c28f5c28f5c29 0000000000000000\no g 0000000000000000 0000000000000000 0000000000000000\n"
   -- every two, and not the neighbours alone
   pub first-and-third : P "(ellipsoid wgs84)\n(let a (geo (m 3) (m 4) (m 0)))\n(let b (geo (m 1000) (m 0) (m 0)))\n(let c (geo (m 3) (m 4) (m 1)))\n(show a)\n(show b)\n(show c)\n(apart 5)\n" [] 9 8 "a g 4008000000000000 4010000000000000 0000000000000000\nb g 408f400000000000 0000000000000000 0000000000000000\nc g 4008000000000000 4010000000000000 3ff0000000000000\n"
-  -- what is shown after its line does not count, nor what is not shown
+  -- what is shown after its line does not count
   pub shown-after : P "(ellipsoid wgs84)\n(let a (geo (m 3) (m 4) (m 0)))\n(let o (geo (m 0) (m 0) (m 0)))\n(show a)\n(apart 10)\n(show o)\n" [] 0 0 "a g 4008000000000000 4010000000000000 0000000000000000\no g 0000000000000000 0000000000000000 0000000000000000\n"
+  -- what was shown before an earlier apart or a total counts on
+  pub across-an-apart : P "(ellipsoid wgs84)\n(let a (geo (m 3) (m 4) (m 0)))\n(let o (geo (m 0) (m 0) (m 0)))\n(show a)\n(apart 10)\n(let l (m 1))\n(show l)\n(total)\n(show o)\n(apart 5.5)\n" [] 9 10 "a g 4008000000000000 4010000000000000 0000000000000000\nl l 3ff0000000000000\ntotal l 3ff0000000000000\no g 0000000000000000 0000000000000000 0000000000000000\n"
   -- other kinds do not count; a name may be `apart`
   pub other-kinds : P "(ellipsoid wgs84)\n(let apart (m 3))\n(let v (venu (m 3) (m 4) (m 0)))\n(let a (geo (m 3) (m 4) (m 0)))\n(show apart)\n(show v)\n(show a)\n(apart 5)\n" [] 0 0 "apart l 4008000000000000\nv venu 4008000000000000 4010000000000000 0000000000000000\na g 4008000000000000 4010000000000000 0000000000000000\n"
   -- refusal 7 comes before 9, and where fewer than two names were shown too; 10^8 is in the limit
@@ -52,6 +55,7 @@ computes = record {
   by-norm = record { full = refl; is = λ out r out′. ((λ h. h), (λ h. h)) };
   first-and-third = record { full = refl; is = λ out r out′. ((λ h. h), (λ h. h)) };
   shown-after = record { full = refl; is = λ out r out′. ((λ h. h), (λ h. h)) };
+  across-an-apart = record { full = refl; is = λ out r out′. ((λ h. h), (λ h. h)) };
   other-kinds = record { full = refl; is = λ out r out′. ((λ h. h), (λ h. h)) };
   seven-first = record { full = refl; is = λ out r out′. ((λ h. h), (λ h. h)) };
   seven-alone = record { full = refl; is = λ out r out′. ((λ h. h), (λ h. h)) };
@@ -74,6 +78,7 @@ tried-aparts = record {
   by-norm = runs (computes .by-norm);
   first-and-third = runs (computes .first-and-third);
   shown-after = runs (computes .shown-after);
+  across-an-apart = runs (computes .across-an-apart);
   other-kinds = runs (computes .other-kinds);
   seven-first = runs (computes .seven-first);
   seven-alone = runs (computes .seven-alone);

@@ -9,9 +9,9 @@ pub mod FloatLaws
 pub mod FloatLays
 pub mod KnownLaws
 pub mod ListedLaws
-pub mod EntryLaws
+pub mod SumLaws
 pub mod FixLaws
-pub mod StandLaws
+pub mod ApartSteps
 pub mod LaidSteps
 pub mod ArmSteps
 pub mod KeySteps

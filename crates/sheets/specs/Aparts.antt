@@ -17,11 +17,12 @@ pub record Fix : Type 0 where
   pub line : ℕ
   pub position : GeocentricPosition
 
--- the g values shown, in line order
+-- a position, where there is one, before the others
 abbrev pub fixThen : ℕ → Option GeocentricPosition → List Fix → List Fix
 fixThen j none fs = fs
 fixThen j (some p) fs = record { line = j; position = p } ∷ fs
 
+-- the g values shown, in line order
 unfoldable pub fixes : List Entry → List Fix
 fixes [] = []
 fixes (shown i g ∷ es) = fixThen (g .line) (held 𝐠 (g .value)) (fixes es)
@@ -35,6 +36,7 @@ distance a b = norm (vecSub (geocentricAsMetres a) (geocentricAsMetres b))
 abbrev pub clear : Float → Fix → Fix → Bool
 clear least a b = eqb (a .line) (b .line) || Ieee.le least (distance (a .position) (b .position))
 
+-- of each of these
 abbrev pub clearOf : Float → Fix → List Fix → Bool
 clearOf least a [] = true
 clearOf least a (b ∷ fs) = clear least a b && clearOf least a fs

@@ -20,7 +20,7 @@ use Rattle.sheets.specs.Grammar.{Written, FirstBad}
 use Rattle.sheets.specs.Names.{Given}
 use Rattle.sheets.specs.Kinds.{kindOf, kindCode}
 use Rattle.sheets.specs.Refusals.{Fault, refusalNumber, fault}
-use Rattle.sheets.specs.Machine.{Ran, done, stopped, stuck, machine}
+use Rattle.sheets.specs.Machine.{Ran, done, stopped, stuck, machine, lastState}
 use Rattle.sheets.specs.Check.{readingKinds}
 use Rattle.sheets.specs.Admitted.{LinesFit}
 use Rattle.sheets.specs.Answers.{sized, ranged, laid, CheckAnswer, RunAnswer, Tells}
@@ -40,9 +40,7 @@ Unstuck (stopped fs r i s) = Unit {0}
 Unstuck (stuck fs i s) = ⊥
 
 abbrev pub namesGiven : Ran → List (Given Value)
-namesGiven (done fs s) = s .scope .given
-namesGiven (stopped fs r i s) = s .scope .given
-namesGiven (stuck fs i s) = s .scope .given
+namesGiven r = lastState r .scope .given
 
 abbrev pub framesMade : Ran → List LocalFrame
 framesMade (done fs s) = fs

@@ -1,5 +1,5 @@
 -- Document 02, request Three, by its sentences: a run that passes has no close pair among the names shown before an apart, and one that is refused there has some.
--- It goes by the output lines of the machine alone: which line showed a name, which let gave it, and its position.
+-- It goes by the machine's entries: which line showed a name, which let gave it, and its position.
 use Prim.Native.Nat.{ℕ, _<_}
 use mathlib.Core.Path.{_≡_}
 use mathlib.Core.List.{List}
@@ -15,7 +15,7 @@ use Rattle.sheets.specs.Names.{Given}
 use Rattle.sheets.specs.Limits.{numValue}
 use Rattle.sheets.specs.Entries.{Entry, shown}
 use Rattle.sheets.specs.Aparts.{distance}
-use Rattle.sheets.specs.Machine.{Ran, done, stopped, stuck, machine}
+use Rattle.sheets.specs.Machine.{lastState, machine}
 use Rattle.sheets.specs.Admitted.{In}
 use Rattle.sheets.specs.Answers.{RunAnswer}
 
@@ -31,16 +31,15 @@ ShownBefore es k j p = (i : ℕ) × (g : Given Value) × In (shown i g) es × (i
 abbrev pub farEnough : Unsigned → GeocentricPosition → GeocentricPosition → Bool
 farEnough q a b = Ieee.le (numValue (signless q)) (distance a b)
 
-abbrev pub entriesOf : Ran → List Entry
-entriesOf (done fs s) = s .entries
-entriesOf (stopped fs r i s) = s .entries
-entriesOf (stuck fs i s) = s .entries
+-- the output lines of the machine over a sheet and its readings
+abbrev pub entriesOf : Sheet → List Float → List Entry
+entriesOf c R = lastState (machine c R) .entries
 
 -- of the run of the bytes S over the readings R, which answers r
 pub record StandApart (S : List ℕ) (R : List Float) (r : RunAnswer) : Type 0 where
   -- it passes: any two names shown before an apart, which the lets on the lines i and j gave, are far enough from each other
   pub passed : r .number ≡ 0 → (c : Sheet) → Written S c → (k : ℕ) (q : Unsigned) → AsksOn c k q → (i j : ℕ) (a b : GeocentricPosition)
-      → ShownBefore (entriesOf (machine c R)) k i a → ShownBefore (entriesOf (machine c R)) k j b → ¬ (i ≡ j) → farEnough q a b ≡ true
+      → ShownBefore (entriesOf c R) k i a → ShownBefore (entriesOf c R) k j b → ¬ (i ≡ j) → farEnough q a b ≡ true
   -- it is refused 9: an apart stands on the line that it answers, and two names shown before it, which the lets on the lines i and j gave, are not
   pub refused : r .number ≡ 9 → (c : Sheet) → Written S c → (q : Unsigned) × AsksOn c (r .line) q × ((i j : ℕ) × (a b : GeocentricPosition)
-      × ShownBefore (entriesOf (machine c R)) (r .line) i a × ShownBefore (entriesOf (machine c R)) (r .line) j b × ¬ (i ≡ j) × (farEnough q a b ≡ false))
+      × ShownBefore (entriesOf c R) (r .line) i a × ShownBefore (entriesOf c R) (r .line) j b × ¬ (i ≡ j) × (farEnough q a b ≡ false))

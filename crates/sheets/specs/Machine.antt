@@ -127,6 +127,12 @@ pub data Ran : Type 0 where
   stopped : List LocalFrame → Stop → ℕ → State → Ran
   stuck : List LocalFrame → ℕ → State → Ran
 
+-- the state in which it ended
+abbrev pub lastState : Ran → State
+lastState (done fs s) = s
+lastState (stopped fs r i s) = s
+lastState (stuck fs i s) = s
+
 abbrev pub afterwards : List LocalFrame → Ran → Ran
 afterwards fs (done hs s) = done (fs ++ hs) s
 afterwards fs (stopped hs r i s) = stopped (fs ++ hs) r i s

@@ -11,11 +11,6 @@ pub record Num : Type 0 where
   pub whole : List ℕ
   pub part : List ℕ
 
--- digits as one decimal number, after those that made the number n
-unfoldable pub decimalFrom : ℕ → List ℕ → ℕ
-decimalFrom n [] = n
-decimalFrom n (b ∷ ds) = decimalFrom (n * 10 + (b - 48)) ds
-
 -- a NUM without a minus, and as a NUM
 pub record Unsigned : Type 0 where
   pub whole : List ℕ
@@ -23,6 +18,11 @@ pub record Unsigned : Type 0 where
 
 abbrev pub signless : Unsigned → Num
 signless q = record { minus = false; whole = q .whole; part = q .part }
+
+-- digits as one decimal number, after those that made the number n
+unfoldable pub decimalFrom : ℕ → List ℕ → ℕ
+decimalFrom n [] = n
+decimalFrom n (b ∷ ds) = decimalFrom (n * 10 + (b - 48)) ds
 
 -- all digits of a NUM as one number, sign and point left out: 1250 for -12.50
 abbrev pub numDigits : Num → ℕ

@@ -1,4 +1,4 @@
-// Demands 1 and 3 and request Two's sentence, said of the code: what the check and the run answer and write, over the same sheet.
+// Demands 1 and 3 and the sentences of requests Two and Three, said of the code: what the check and the run answer and write, over the same sheet.
 use crate::answers::CheckAnswer;
 use crate::answers::RunAnswer;
 use crate::check::check;

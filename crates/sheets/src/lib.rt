@@ -32,7 +32,7 @@ pub(crate) enum Applied {
     Centre,
 }
 
-// The code of a value's kind and a number: of an expression the place after it, of a let the place of the next line, of a show the bytes then written.
+// A kind code, of a value or of a line, and a number: of an expression the place after it, of a let the place of the next line, of any other line the bytes then written.
 // Else the number of the refusal that stops the machine, 7, 8 or 9; or that the machine sticks.
 pub(crate) enum Evaluated {
     Is(u8, usize),

@@ -9,7 +9,7 @@ use lib.Dec.{leb}
 use lib.Ieee.{Float}
 use mir.Val.{hasKey}
 use Rattle.sheets.specs.Text.{Word}
-use Rattle.sheets.specs.Trees.{Line, let-line, show-line, total-line, apart-line}
+use Rattle.sheets.specs.Trees.{Line, let-line, show-line}
 use Rattle.sheets.specs.Grammar.{IsWord}
 use Rattle.sheets.specs.code.reader.Codes.{codeFrom, codeOf}
 use Rattle.sheets.specs.code.reader.Reader.{Got, none as noGot, got, readExpr, orElse, nothing, closing, limit, let-word, rest, readLine}

@@ -12,7 +12,7 @@ use lib.Ieee.{Float}
 use Rattle.numbers.specs.Floats.{nearest, divided}
 use Rattle.numbers.proofs.Quotient.{divided-nearest}
 use Rattle.sheets.specs.Trees.{Num, signless, numDigits}
-use Rattle.sheets.specs.code.reader.Reader.{Got, none, got, _then_, charsIf, chars, wholeStep, readWhole, signIf, readNum, readUnsigned, spaced, one}
+use Rattle.sheets.specs.code.reader.Reader.{Got, none, got, _then_, charsIf, chars, wholeStep, readWhole, signIf, readNum, readUnsigned, one}
 use Rattle.sheets.specs.code.reader.Codes.{digit}
 use Rattle.sheets.specs.Limits.{numValue}
 use Rattle.sheets.specs.code.reader.Views.{counted, numeralOf, closed, doubledBy, doubled, unsignedDouble}

@@ -2,7 +2,7 @@
 use Prim.Native.Nat.{ℕ, zero, suc, _+_, _*_, _<_, _≤_}
 use native.Mathlib.Omega.{arith}
 use mathlib.Core.Path.{_≡_, refl, sym, ap, subst, _∙_}
-use mathlib.Core.Logic.{_⊎_, inl, inr}
+use mathlib.Core.Logic.{inl, inr}
 use mathlib.Core.Bool.{Bool, true, false}
 use mathlib.Core.List.{List, [], _∷_, _++_, append-nil}
 use mathlib.Core.Option.{Option, none, some}
@@ -51,15 +51,14 @@ let-here : (lets : ℕ → ℕ) (n i j : ℕ) → n < j → letAt lets n i j ≡
 let-here lets n i j h = ap (λ b. when b (lets j) i) (lt-leb j n h)
 
 pub rising-none : Rising noLets 0 2
-rising-none = record { reading = refl; before = λ j h. omega arith; each = λ j k a b. absurd (omega arith) }
+rising-none = record { before = λ j h. omega arith; each = λ j k a b. absurd (omega arith) }
 
 module _ (lets : ℕ → ℕ) (n i : ℕ) (r : Rising lets n i) where
   pub rising-line : Rising lets n (i + 1)
-  rising-line = record { reading = r .reading; before = λ j h. omega (arith, r .before j h); each = r .each }
+  rising-line = record { before = λ j h. omega (arith, r .before j h); each = r .each }
 
   pub rising-let : Rising (letAt lets n i) (n + 1) (i + 1)
   rising-let = record {
-    reading = let-before lets n i 0 (omega arith) ∙ r .reading;
     before = λ j h. before j (leb j n) refl;
     each = λ j k a b. each j k a b (leb k n) refl;
   }

@@ -18,6 +18,7 @@ use Rattle.sheets.specs.Kinds.{kindOf, kindName}
 use Rattle.sheets.specs.Output.{fields, fieldsText, outputLine}
 use Rattle.sheets.specs.Answers.{laid}
 use Rattle.sheets.specs.code.run.Writing.{writes, Written, part, valueText, fitting, room, lineIf}
+use Rattle.sheets.proofs.Bools.{and-both}
 use Rattle.sheets.proofs.reader.Slices.{word-is, word-part}
 use Rattle.sheets.proofs.run.TextBound.{fields-length, few, name-length, line-length, word-length}
 use Rattle.sheets.proofs.run.WritingLaws.{length-laid, laid-more, written-then, part-length}
@@ -28,16 +29,12 @@ pub fitting-is : (n from end m at : ℕ) → from ≤ end → end ≤ n → end 
 unfolding fitting
 fitting-is n from end m at a b c d = rw (le-leb from end a, le-leb end n b, le-leb (end - from) 12 c, le-leb (at + 223) m d) refl
 
-both : (p q : Bool) → (p && q) ≡ true → (p ≡ true) × (q ≡ true)
-both true q e = (refl, e)
-both false q e = let z : _≡_ {A = ℕ} 0 1 = cc in absurd (omega arith)
-
 fitting-told : (n from end m at : ℕ) → fitting n from end m at ≡ true → (from ≤ end) × (end ≤ n) × (end - from ≤ 12) × (at + 223 ≤ m)
 unfolding fitting
 fitting-told n from end m at e =
-    let (a, e₁) = both (leb from end) _ e in
-    let (b, e₂) = both (leb end n) _ e₁ in
-    let (c, d) = both (leb (end - from) 12) _ e₂ in
+    let (a, e₁) = and-both (leb from end) _ e in
+    let (b, e₂) = and-both (leb end n) _ e₁ in
+    let (c, d) = and-both (leb (end - from) 12) _ e₂ in
     (leb-true from end a, leb-true end n b, leb-true (end - from) 12 c, leb-true (at + 223) m d)
 
 -- what a line's name and buffer are where the test was passed

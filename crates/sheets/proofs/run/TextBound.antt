@@ -14,9 +14,9 @@ use Rattle.sheets.specs.Grammar.{IsWord, IsLine, AreLines, IsSheet, afte
 use Rattle.sheets.specs.Kinds.{Kind, number, angle, len, geocentric, geodetic, vector, frame, kindOf, kindName}
 use Rattle.sheets.specs.Output.{hex, hexDigit, field, fields, fieldsText, outputLine}
 use Rattle.sheets.specs.Entries.{Entry, shown, summed, total, entryName, entryValue, entryLine, entryLines}
-use Rattle.sheets.specs.Machine.{Out, goes, stops, sticks, State, step, Ran, onward, steps, start, machine}
+use Rattle.sheets.specs.Machine.{Out, goes, stops, sticks, State, step, Ran, onward, steps, start, machine, lastState}
 use Rattle.sheets.specs.Writes.{Writes, a-show, a-total, nothing, writes}
-use Rattle.sheets.proofs.LineWrites.{Left, Wrote, line-wrote, Named, line-named, lastState, last-after}
+use Rattle.sheets.proofs.LineWrites.{Left, Wrote, line-wrote, Named, line-named, last-after}
 
 -- ---- an output line
 

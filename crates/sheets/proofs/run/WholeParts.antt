@@ -1,5 +1,5 @@
 -- A line that is read whole: a law for each way out of `named`, `tested_line`, `plus`, `show_value`, `show` and `whole_line`. Assumes nothing.
-use Prim.Native.Nat.{ℕ, _+_, _<_, _≤_}
+use Prim.Native.Nat.{ℕ, _<_, _≤_}
 use native.Mathlib.Omega.{arith}
 use mathlib.Core.Path.{_≡_, refl, ap, subst, _∙_}
 use mathlib.Core.Bool.{Bool, true, false}
@@ -25,7 +25,7 @@ use Rattle.sheets.specs.code.run.Floats.{floatAt}
 use Rattle.sheets.specs.code.run.Known.{readingIndex, foundAt}
 use Rattle.sheets.specs.code.run.Writing.{Written, lineIf, room}
 use Rattle.sheets.specs.code.run.Keeping.{keep}
-use Rattle.sheets.specs.code.run.Standing.{apartLine}
+use Rattle.sheets.specs.code.run.Apart.{apartLine}
 use Rattle.sheets.specs.code.run.Evaluating.{evaluated}
 use Rattle.sheets.specs.code.run.Wholes.{Names, TestedIf, TestedLine, KeptIf, Shown, ShownAs, TotalLine, Does, LineDoes}
 use Rattle.sheets.proofs.run.RunParts.{NotIs, not-is}

@@ -34,7 +34,7 @@ use Rattle.sheets.specs.code.check.Newest.{placeFrom}
 use Rattle.sheets.specs.code.check.Newest as Search
 use Rattle.sheets.specs.code.run.Known.{wordFound}
 use Rattle.sheets.specs.code.run.Keeping.{FixAt, FixesKept}
-use Rattle.sheets.specs.code.run.Standing.{apartLine}
+use Rattle.sheets.specs.code.run.Apart.{apartLine}
 use Rattle.sheets.specs.code.run.Evaluating.{evaluated}
 use Rattle.sheets.specs.code.run.Wholes.{Names, TestedLine, KeptIf, Shown, TotalLine, Does, LineDoes}
 use Rattle.sheets.proofs.reader.Slices.{word-is}
@@ -43,9 +43,9 @@ use Rattle.sheets.proofs.run.LineText.{line-laid}
 use Rattle.sheets.proofs.ApartLaws.{held-position}
 use Rattle.sheets.proofs.check.NewestLaws.{place-is}
 use Rattle.sheets.proofs.run.ListedLaws.{placed-few, listed-at, found-position}
-use Rattle.sheets.proofs.run.EntryLaws.{total-show, total-total}
+use Rattle.sheets.proofs.run.SumLaws.{total-show, total-total}
 use Rattle.sheets.proofs.run.FixLaws.{fixes-show, fixes-total}
-use Rattle.sheets.proofs.run.StandLaws.{stand-is}
+use Rattle.sheets.proofs.run.ApartSteps.{stand-is}
 use Rattle.sheets.proofs.run.RunParts.{NotIs, not-is}
 use Rattle.sheets.proofs.run.WholeParts.{tested-not, tested-is}
 use Rattle.sheets.proofs.run.Stages.{Stage, Now}

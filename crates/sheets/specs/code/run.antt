@@ -6,6 +6,6 @@ pub mod Evaluating
 pub mod Digits
 pub mod Writing
 pub mod Keeping
-pub mod Standing
+pub mod Apart
 pub mod Wholes
 pub mod Running

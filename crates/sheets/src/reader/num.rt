@@ -133,7 +133,7 @@ pub fn double(s: &[u8], at: usize) -> DoubleRead
     DoubleRead::Is(v, x.end)
 }
 
-// The same, where the NUM has no minus.
+// The same of a NUM without a minus; one that has it is not read.
 pub fn unsigned(s: &[u8], at: usize) -> DoubleRead
     ensures { λ r. ⌜ r ≡ unsignedDouble (readUnsigned (now (s .entry)) at) ⌝ }
 {

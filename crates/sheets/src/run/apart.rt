@@ -3,7 +3,7 @@ use crate::run::floats::position_at;
 use numbers::Vec3;
 ghost use mathlib.Core.Path.{_≡_};
 ghost use Prim.Native.Nat.{_≤_};
-ghost use Rattle.sheets.specs.code.run.Standing.{clearAt, clearBelow, apartBelow};
+ghost use Rattle.sheets.specs.code.run.Apart.{clearAt, clearBelow, apartBelow};
 
 // Whether the name at a place, if it was shown, is at least so far from v. Where the square of its distance is greater the root is not taken: it would say the same (`square-decides` of numbers).
 fn is_clear(least: f64, v: Vec3, place: usize, floats: &[f64; 2940], shown: &[u8; 96]) -> bool

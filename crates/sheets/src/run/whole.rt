@@ -20,7 +20,7 @@ ghost use Rattle.sheets.specs.Letters.{𝐥, 𝐠, held};
 ghost use Rattle.sheets.specs.Entries.{plus};
 ghost use Rattle.sheets.specs.code.run.Keeping.{keep};
 ghost use Rattle.sheets.specs.code.run.Known.{foundAt};
-ghost use Rattle.sheets.specs.code.run.Standing.{apartLine};
+ghost use Rattle.sheets.specs.code.run.Apart.{apartLine};
 ghost use Rattle.sheets.specs.code.run.Wholes.{Names, TestedLine, ShownAs, TotalLine, LineDoes};
 
 // The code of a show's word; of another line it does not matter. The slot at the word's place is looked up by the caller, which holds the table: it cannot be lent.

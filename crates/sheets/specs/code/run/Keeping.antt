@@ -17,14 +17,13 @@ use Rattle.sheets.specs.code.reader.Codes.{codeOf}
 use Rattle.sheets.specs.code.check.Newest.{placeFrom}
 use Rattle.sheets.specs.code.run.Floats.{positionAt}
 
--- the place j of a value that is shown, where it is a g
+-- the places kept, and with them the place j of a value that is shown, where it is a g
 abbrev pub keep : List ℕ → ℕ → Option GeocentricPosition → List ℕ
 keep js j none = js
 keep js j (some p) = set js j 1
 
--- By the places of n names, the lines of the lets that gave them: each comes after those of the places before it, and all come before line i. A reading's place and line are 0.
+-- By the places of n names, the lines of the lets that gave them: each comes after those of the places before it, and all come before line i.
 pub record Rising (lets : ℕ → ℕ) (n i : ℕ) : Type 0 where
-  pub reading : lets 0 ≡ 0
   pub before : (j : ℕ) → j ≤ n → lets j < i
   pub each : (j k : ℕ) → j < k → k ≤ n → lets j < lets k
 

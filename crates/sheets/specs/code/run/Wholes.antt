@@ -19,7 +19,7 @@ use Rattle.sheets.specs.Letters.{𝐥, 𝐠, held}
 use Rattle.sheets.specs.Limits.{inLimit}
 use Rattle.sheets.specs.Entries.{plus}
 use Rattle.sheets.specs.code.run.Keeping.{keep}
-use Rattle.sheets.specs.code.run.Standing.{apartLine}
+use Rattle.sheets.specs.code.run.Apart.{apartLine}
 use Rattle.sheets.specs.code.run.Known.{foundAt}
 use Rattle.sheets.specs.code.run.Writing.{Written, lineIf, room}
 

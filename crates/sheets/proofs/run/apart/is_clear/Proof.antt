@@ -6,7 +6,7 @@ use lib.Ieee as Ieee
 use Rattle.numbers.specs.Vec.{squaredNorm, norm, vecSub}
 use Rattle.numbers.proofs.FitLaws.{Fits}
 use Rattle.frames.specs.Positions.{geocentricAsMetres}
-use Rattle.sheets.proofs.run.StandLaws.{clear-shown, clear-squared, clear-unshown}
+use Rattle.sheets.proofs.run.ApartSteps.{clear-shown, clear-squared, clear-unshown}
 use borrow.Author.Needs.{needs}
 use Rattle.sheets.proofs.run.apart.is_clear.Statement.{statement}
 use Rattle.sheets.proofs.run.apart.is_clear.Tie as tie

@@ -2,9 +2,8 @@
 use Prim.Native.Nat.{_≤_}
 use native.Mathlib.Omega.{arith}
 use mathlib.Core.Path.{_≡_, refl, sym, _∙_}
-use Rattle.sheets.specs.code.run.Standing.{clearBelow}
-use Rattle.sheets.proofs.run.StandLaws.{below-next, below-not, below-end}
-use borrow.Author.Needs.{needs}
+use Rattle.sheets.specs.code.run.Apart.{clearBelow}
+use Rattle.sheets.proofs.run.ApartSteps.{below-next, below-not, below-end}
 use Rattle.sheets.proofs.run.apart.is_clear_below.Statement.{statement}
 use Rattle.sheets.proofs.run.apart.is_clear_below.Tie as tie
 

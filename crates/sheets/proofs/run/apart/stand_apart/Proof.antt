@@ -3,8 +3,8 @@ use Prim.Native.Nat.{_≤_}
 use native.Mathlib.Omega.{arith}
 use mathlib.Core.Path.{_≡_, refl, sym, ap, _∙_}
 use Rattle.frames.specs.Positions.{geocentricAsMetres}
-use Rattle.sheets.specs.code.run.Standing.{apartBelow}
-use Rattle.sheets.proofs.run.StandLaws.{apart-unshown, apart-next, apart-not, apart-end}
+use Rattle.sheets.specs.code.run.Apart.{apartBelow}
+use Rattle.sheets.proofs.run.ApartSteps.{apart-unshown, apart-next, apart-not, apart-end}
 use borrow.Author.Needs.{needs}
 use Rattle.sheets.proofs.run.apart.stand_apart.Statement.{statement}
 use Rattle.sheets.proofs.run.apart.stand_apart.Tie as tie

@@ -1,5 +1,5 @@
 -- Whether the names shown stand apart, as the code tells it: a law for each way out of `is_clear`, of the loops of `is_clear_below` and `stand_apart`, and of `apart`; and that it is what the definition says. Assumes nothing.
-use Prim.Native.Nat.{ℕ, zero, suc, _*_, _<_, _≤_}
+use Prim.Native.Nat.{ℕ, zero, suc, _<_, _≤_}
 use native.Mathlib.Omega.{arith}
 use mathlib.Core.Path.{_≡_, refl, sym, ap, ap₂, _∙_}
 use mathlib.Core.Logic.{_⊎_, inl, inr}
@@ -20,19 +20,11 @@ use Rattle.frames.specs.declared.GeocentricPosition.{GeocentricPosition}
 use Rattle.sheets.specs.declared.Evaluated.{Evaluated}
 use Rattle.sheets.specs.Table.{when}
 use Rattle.sheets.specs.Limits.{near}
-use Rattle.sheets.specs.Aparts.{Fix, distance, clear, standApart}
-use Rattle.sheets.specs.Admitted.{In}
-use Rattle.sheets.specs.code.run.Floats.{positionAt}
+use Rattle.sheets.specs.Aparts.{Fix, distance, standApart}
 use Rattle.sheets.specs.code.run.Keeping.{Rising, FixAt, FixesKept}
-use Rattle.sheets.specs.code.run.Standing.{metresAt, clearAt, clearBelow, apartBelow, apartLine}
-use Rattle.sheets.proofs.ApartLaws.{distance-comm, clear-two, not-clear, and-both, and-some, every-two, some-two}
-
--- a test that is passed where it fails
-unless : (c b : Bool) → not c ≡ b → c ≡ not b
-unless true true h = sym h
-unless true false h = refl
-unless false true h = refl
-unless false false h = sym h
+use Rattle.sheets.specs.code.run.Apart.{metresAt, clearAt, clearBelow, apartBelow, apartLine}
+use Rattle.sheets.proofs.ApartLaws.{distance-comm, clear-two, not-clear, every-two, some-two}
+use Rattle.sheets.proofs.Bools.{and-both, and-some, not-once}
 
 module _ (least : Float) (f : List Float) (js : List ℕ) where
   -- ---- one place
@@ -58,10 +50,10 @@ module _ (least : Float) (f : List Float) (js : List ℕ) where
     below-is b h = ap (clearBelow least v f js) ep ∙ ap (λ (z : Bool). z && clearBelow least v f js q) (sym ec ∙ h)
 
     pub below-next : not c ≡ false → clearBelow least v f js p ≡ clearBelow least v f js q
-    below-next h = below-is true (unless c false h)
+    below-next h = below-is true (not-once c false h)
 
     pub below-not : not c ≡ true → clearBelow least v f js p ≡ false
-    below-not h = below-is false (unless c true h)
+    below-not h = below-is false (not-once c true h)
 
   pub below-end : (v : Vec3) (q : ℕ) → q ≤ 0 → clearBelow least v f js q ≡ true
   unfolding clearBelow
@@ -84,10 +76,10 @@ module _ (least : Float) (f : List Float) (js : List ℕ) where
           ∙ ap (λ (z : Bool). z && apartBelow least f js q) (ap (λ v. clearBelow least v f js q) (sym ev) ∙ sym ec ∙ e)
 
       pub apart-next : not c ≡ false → apartBelow least f js p ≡ apartBelow least f js q
-      apart-next e = apart-is true (unless c false e)
+      apart-next e = apart-is true (not-once c false e)
 
       pub apart-not : not c ≡ true → apartBelow least f js p ≡ false
-      apart-not e = apart-is false (unless c true e)
+      apart-not e = apart-is false (not-once c true e)
 
   pub apart-end : (p : ℕ) → p ≤ 0 → apartBelow least f js p ≡ true
   unfolding apartBelow
@@ -97,9 +89,9 @@ module _ (least : Float) (f : List Float) (js : List ℕ) where
   -- ---- the answer of an apart
 
   module _ (written : ℕ) (n : Bool) (en : n ≡ near least) where
-    pub apart-far : n ≡ false → Evaluated.Stops 7 ≡ apartLine least f js written
+    pub apart-limit : n ≡ false → Evaluated.Stops 7 ≡ apartLine least f js written
     unfolding apartLine
-    apart-far h = rw (← en, h) refl
+    apart-limit h = rw (← en, h) refl
 
     module _ (h : n ≡ true) (b : Bool) (eb : b ≡ apartBelow least f js 96) where
       pub apart-holds : b ≡ true → Evaluated.Is 254 written ≡ apartLine least f js written
@@ -177,14 +169,14 @@ module _ (least : Float) (f : List Float) (js : List ℕ) where
         let (p, x, mp) = kept .kept a ia in
         let (q, y, mq) = kept .kept b ib in
         let two = not-clear least a b c in
-        let near = sym (clear-two least a b two) ∙ c in
-        elim (apart-places p q (λ e. two (sym (x .line) ∙ ap lets e ∙ y .line))) [
-          | inl l ↦ true≢false (sym (all-far 96 h p q l (omega (arith, x .few, few)) mp mq) ∙ sym (far-is p q a b x y) ∙ near)
-          | inr l ↦ true≢false (sym (all-far 96 h q p l (omega (arith, y .few, few)) mq mp) ∙ sym (far-is q p b a y x) ∙ ap (Ieee.le least) (distance-comm (b .position) (a .position)) ∙ near)
+        let close = sym (clear-two least a b two) ∙ c in
+        elim (one-below p q (λ e. two (sym (x .line) ∙ ap lets e ∙ y .line))) [
+          | inl l ↦ true≢false (sym (all-far 96 h p q l (omega (arith, x .few, few)) mp mq) ∙ sym (far-is p q a b x y) ∙ close)
+          | inr l ↦ true≢false (sym (all-far 96 h q p l (omega (arith, y .few, few)) mq mp) ∙ sym (far-is q p b a y x) ∙ ap (Ieee.le least) (distance-comm (b .position) (a .position)) ∙ close)
         ]
       where
-        apart-places : (p q : ℕ) → ¬ (p ≡ q) → (q < p) ⊎ (p < q)
-        apart-places p q ne = go (ltb q p) refl
+        one-below : (p q : ℕ) → ¬ (p ≡ q) → (q < p) ⊎ (p < q)
+        one-below p q ne = go (ltb q p) refl
           where
             go : (b : Bool) → ltb q p ≡ b → (q < p) ⊎ (p < q)
             go true e = inl (ltb-true q p e)
