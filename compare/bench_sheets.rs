@@ -76,14 +76,45 @@ fn aparts(lines: usize) -> String {
     text
 }
 
+// A bore a line, the longest lines that 96 can be: 16,263 bytes of the 16,384 that a sheet may have.
+fn bores(lines: usize) -> String {
+    let line = |i: usize| {
+        format!("(let tip{i:02} (tolla (at (enu (lla (deg 46.51{i:02}45) (deg 8.12{i:02}56) (m 812.{i:02}0000))) (add (aenu (deg 132.{i:02}00) (deg -78.250000) (m 42.{i:02}0000)) (venu (m 0) (m 0) (m -0.25))))))\n")
+    };
+    HEAD.to_string() + &(2..=lines).map(line).collect::<String>()
+}
+
+// A site's sheet with lines changed.
+fn changed(lines: usize, to: &[(usize, &str)]) -> String {
+    let site = site(lines);
+    let lines = site.split_inclusive('\n').zip(1..);
+    lines.map(|(line, i)| to.iter().find(|(at, _)| *at == i).map_or(line, |(_, other)| *other)).collect()
+}
+
+const BAD: &str = "(show p00 )\n";
+const UNKNOWN: &str = "(show nobody)\n";
+
+// Refused at the last line: by the walk over names and kinds, by the form pass that goes on from line 2, for a name, and when that line runs.
+fn bad_at_last(lines: usize) -> String {
+    changed(lines, &[(lines, BAD)])
+}
+
+fn bad_behind_a_name(lines: usize) -> String {
+    changed(lines, &[(2, UNKNOWN), (lines, BAD)])
+}
+
+fn unknown_at_last(lines: usize) -> String {
+    changed(lines, &[(lines, UNKNOWN)])
+}
+
+fn centre_at_last(lines: usize) -> String {
+    changed(lines, &[(lines, "(let x (enu (geo (m 0) (m 0) (m 0))))\n")])
+}
+
 // A site's sheet of 96 lines with lines changed: what it is refused for, and at which line.
 fn refused() -> Vec<(String, (u32, u32))> {
-    let site = site(96);
-    let with = |changed: &[(usize, &str)]| {
-        let lines = site.split_inclusive('\n').zip(1..);
-        lines.map(|(line, i)| changed.iter().find(|(at, _)| *at == i).map_or(line, |(_, other)| *other)).collect::<String>()
-    };
-    let (bad, unknown, unkind) = ("(show p00 )\n", "(show nobody)\n", "(let x (deg c00))\n");
+    let with = |to: &[(usize, &str)]| changed(96, to);
+    let (bad, unknown, unkind) = (BAD, UNKNOWN, "(let x (deg c00))\n");
     vec![
         (with(&[(2, bad)]), (3, 2)),
         (with(&[(96, bad)]), (3, 96)),
@@ -136,7 +167,7 @@ fn times(name: &str, s: &[u8]) -> Times {
 }
 
 // A table of one sort of sheet, microseconds a call.
-fn table(name: &str, make: fn(usize) -> String, best: &[Times; 4]) {
+fn table((name, make, _): Sort, best: &[Times; 4]) {
     println!("{name}");
     println!("  lines  bytes   check: Rust   Rattle  ratio  Rattle a line     run: Rust   Rattle  ratio  Rattle a line");
     for (lines, t) in LENGTHS.into_iter().zip(best) {
@@ -148,33 +179,55 @@ fn table(name: &str, make: fn(usize) -> String, best: &[Times; 4]) {
     }
 }
 
-// The sorts of sheets.
-const SORTS: [(&str, fn(usize) -> String); 6] = [
-    ("a site's sheet", site),
-    ("one bracket a line", brackets),
-    ("shows of readings", shows),
-    ("shows of a frame", frames),
-    ("shows and totals", totals),
-    ("collars and aparts", aparts),
+// A sort of sheets, and the numbers that the check and the run answer: 0, or a refusal at the last line.
+type Sort = (&'static str, fn(usize) -> String, [u32; 2]);
+
+const SORTS: [Sort; 11] = [
+    ("a site's sheet", site, [0, 0]),
+    ("one bracket a line", brackets, [0, 0]),
+    ("shows of readings", shows, [0, 0]),
+    ("shows of a frame", frames, [0, 0]),
+    ("shows and totals", totals, [0, 0]),
+    ("collars and aparts", aparts, [0, 0]),
+    ("a bore a line", bores, [0, 0]),
+    ("a site's sheet, its last line bad", bad_at_last, [3, 3]),
+    ("the same, and a name unknown on line 2", bad_behind_a_name, [3, 3]),
+    ("a site's sheet, a name unknown on its last line", unknown_at_last, [5, 5]),
+    ("a site's sheet, the centre on its last line", centre_at_last, [0, 8]),
 ];
 
-fn profile((name, make): (&str, fn(usize) -> String)) {
-    let (text, mut out) = (make(96), vec![0; 24576]);
-    println!("{name}");
+// The number and the line.
+fn expected(number: u32, lines: usize) -> (u32, u32) {
+    (number, if number == 0 { 0 } else { lines as u32 })
+}
+
+fn checked((name, make, [check, run]): Sort, lines: usize) -> String {
+    let (text, mut out) = (make(lines), vec![0; 24576]);
+    assert_eq!(sheet::check(text.as_bytes(), &mut [0; 96]), expected(check, lines), "the check of {name}, {lines} lines");
+    let (number, line, _) = sheet::run(text.as_bytes(), &READINGS, &mut out);
+    assert_eq!((number, line), expected(run, lines), "the run of {name}, {lines} lines");
+    text
+}
+
+fn profile(sort: Sort) {
+    let (text, mut out) = (checked(sort, 96), vec![0; 24576]);
+    println!("{}", sort.0);
     for _ in 0..200 {
-        let (number, ..) = library::run(black_box(text.as_bytes()), &READINGS, &mut out);
-        assert_eq!(number, 0, "{name} must run to its end");
+        library::run(black_box(text.as_bytes()), &READINGS, &mut out);
     }
 }
 
-fn once(what: &str, (name, make): (&str, fn(usize) -> String), lines: usize) {
-    let (text, mut kinds, mut out) = (make(lines), [0; 96], vec![0; 24576]);
-    let number = match what {
-        "check" => library::check(black_box(text.as_bytes()), &mut kinds).0,
-        "run" => library::run(black_box(text.as_bytes()), &READINGS, &mut out).0,
+fn once(what: &str, sort: Sort, lines: usize) {
+    let (text, mut kinds, mut out) = (checked(sort, lines), [0; 96], vec![0; 24576]);
+    let (answer, number) = match what {
+        "check" => (library::check(black_box(text.as_bytes()), &mut kinds), sort.2[0]),
+        "run" => {
+            let (number, line, _) = library::run(black_box(text.as_bytes()), &READINGS, &mut out);
+            ((number, line), sort.2[1])
+        }
         _ => panic!("check or run"),
     };
-    assert_eq!(number, 0, "{name} must pass");
+    assert_eq!(answer, expected(number, lines), "{}", sort.0);
 }
 
 fn main() {
@@ -188,11 +241,10 @@ fn main() {
     }
     let mut best = [[[f64::INFINITY; 4]; LENGTHS.len()]; SORTS.len()];
     for _ in 0..PASSES {
-        for ((name, make), row) in SORTS.into_iter().zip(&mut best) {
+        for (sort, row) in SORTS.into_iter().zip(&mut best) {
             for (lines, least) in LENGTHS.into_iter().zip(row) {
-                let text = make(lines);
-                assert_eq!(sheet::check(text.as_bytes(), &mut [0; 96]), (0, 0), "{name} of {lines} lines must pass");
-                for (x, t) in least.iter_mut().zip(times(name, text.as_bytes())) {
+                let text = checked(sort, lines);
+                for (x, t) in least.iter_mut().zip(times(sort.0, text.as_bytes())) {
                     *x = x.min(t);
                 }
             }
@@ -209,8 +261,8 @@ fn main() {
         }
     }
     println!("microseconds a call, the best of {PASSES} passes of {ROUNDS} rounds of {CALLS} calls");
-    for ((name, make), row) in SORTS.into_iter().zip(&best) {
-        table(name, make, row);
+    for (sort, row) in SORTS.into_iter().zip(&best) {
+        table(sort, row);
     }
     println!("a site's sheet of 96 lines, refused");
     println!("  number line   check: Rust   Rattle  ratio     run: Rust   Rattle  ratio");

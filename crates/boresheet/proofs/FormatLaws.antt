@@ -32,7 +32,7 @@ not-is x n e = let z : _≡_ {A = ℕ} 0 1 = cc in absurd (omega arith)
 
 -- ---- hexadecimal digits
 
-hex-lf : hexNumber 10 ≡ 16
+pub hex-lf : hexNumber 10 ≡ 16
 unfolding hexNumber
 hex-lf = refl
 
@@ -120,7 +120,7 @@ module _ (s : List ℕ) where
           (q, h, (rw j p), v)
 
   -- a line that was read stands there
-  line-sound : (at : ℕ) (x : Float) (n : ℕ) → readingAt s at ≡ Is x n → (t : List ℕ) × Line t x × Spans s (t ++ lf) at n × (n ≤ length s)
+  pub line-sound : (at : ℕ) (x : Float) (n : ℕ) → readingAt s at ≡ Is x n → (t : List ℕ) × Line t x × Spans s (t ++ lf) at n × (n ≤ length s)
   unfolding readingAt hexAt orElse Spans
   line-sound at x n e = go (endedAt s (doubled (readNum s at))) refl e
     where

@@ -4,3 +4,4 @@ pub mod MessageSteps
 pub mod Written
 pub mod Spelled
 pub mod FormatLaws
+pub mod ReadingNumbers

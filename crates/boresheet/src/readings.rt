@@ -59,7 +59,7 @@ pub fn reading(s: &[u8], at: usize) -> DoubleRead
     }
 }
 
-// The readings of a file's bytes.
+// The readings of a file's bytes. The number of the line at `at` is `i` + 1, stepped at each LF.
 pub fn readings_of(s: &[u8]) -> Readings
     ensures { λ r. ⌜ r ≡ readingsOf (now (s .entry)) ⌝ }
 {

@@ -14,6 +14,7 @@ pub mod ConfinedHolds
 pub mod TotalText
 pub mod TotalsHold
 pub mod ApartsHold
+pub mod AnsweredLines
 pub mod OwedOnce
 pub mod Starred
 pub mod Pinned

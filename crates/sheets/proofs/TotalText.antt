@@ -25,7 +25,8 @@ use Rattle.sheets.specs.Entries.{Entry, entryName, entryValue, entryLine
 use Rattle.sheets.specs.Claim.{All}
 use Rattle.sheets.specs.Totals.{cut, textLines, digitValue, hexValue, lengthIn}
 use Rattle.sheets.proofs.ByCases.{by-cases}
-use Rattle.sheets.proofs.reader.LineNumbers.{countLF, NoLF, _also_, text, word-none}
+use Rattle.sheets.specs.LineNumbers.{countLF}
+use Rattle.sheets.proofs.reader.LineNumbers.{NoLF, _also_, text, word-none}
 use Rattle.sheets.proofs.run.TextBound.{hex-length}
 use Rattle.sheets.proofs.EveryFrame.{Good}
 

@@ -23,3 +23,4 @@ pub mod Stages
 pub mod WholeParts
 pub mod WholeSteps
 pub mod RunSteps
+pub mod RunNumbers

@@ -1,6 +1,7 @@
 pub mod Text
 pub mod Trees
 pub mod Grammar
+pub mod LineNumbers
 pub mod Kinds
 pub mod Letters
 pub mod Table

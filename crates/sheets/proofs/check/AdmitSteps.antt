@@ -23,7 +23,9 @@ use Rattle.sheets.specs.Answers.{ranged, ofWalked, ofForm}
 use Rattle.sheets.specs.Machine.{surface}
 use Rattle.sheets.specs.declared.reader.form.FormRead.{FormRead}
 use Rattle.sheets.specs.declared.check.first_line.FirstLine.{FirstLine}
+use Rattle.sheets.specs.LineNumbers.{lineNumber}
 use Rattle.sheets.proofs.reader.Spans.{holds-at}
+use Rattle.sheets.proofs.reader.LineNumbers.{number-next, number-two}
 use Rattle.sheets.proofs.reader.LineLaws.{LineStands, line-sound}
 use Rattle.sheets.proofs.reader.Walks.{lines-end, lines-over, lines-step, Step, walk-line}
 use Rattle.sheets.specs.code.check.Walking.{kindFrom, Stands, lineWord, lineSaid, LineHas, Walks, LinesWalk, unlessBad, Admits}
@@ -66,9 +68,10 @@ unfolding _thenᶠ_
 twice (formed ls) g h = refl
 twice (badLine j) g h = refl
 
--- ---- the walk, where so many lines after line 1 are passed and the next one stands at a place: those before it were read, and make the state
+-- ---- the walk, where so many lines after line 1 are passed and the next one stands at a place: it has its number, and those before it were read, and make the state
 
 pub record Midway (s : List ℕ) (start at passed : ℕ) (words codes newest : List ℕ) : Type 0 where
+  pub has-number : passed + 2 ≡ lineNumber s at
   pub before : List Line → List Line
   pub phase : ℕ
   pub state : Stateᶜ
@@ -77,9 +80,9 @@ pub record Midway (s : List ℕ) (start at passed : ℕ) (words codes newest : L
   pub stands : Stands words codes newest passed (state .scope .known)
   pub laid : take (passed + 1) codes ≡ 255 ∷ state .codes
 
-pub midway-start : (s : List ℕ) (at : ℕ) → Midway s at at 0 (replicate 96 0) (replicate 96 255) (replicate 512 0)
+pub midway-start : (s t : List ℕ) (at : ℕ) → s ≡ t → 2 ≡ lineNumber t at → Midway s at at 0 (replicate 96 0) (replicate 96 255) (replicate 512 0)
 unfolding kindFrom
-midway-start s at = record { before = λ ls. ls; phase = 0; state = startᶜ; whole = alone (readLines 95 2 0 s at); walked = λ ls. refl; stands = record { few = omega arith; from = newest-none _; is = reading-is }; laid = refl }
+midway-start s t at e two = record { has-number = two ∙ ap (λ x. lineNumber x at) (sym e); before = λ ls. ls; phase = 0; state = startᶜ; whole = alone (readLines 95 2 0 s at); walked = λ ls. refl; stands = record { few = omega arith; from = newest-none _; is = reading-is }; laid = refl }
 
 -- of bytes that are the same
 pub walk-same : (s t : List ℕ) → s ≡ t → (start : ℕ) (e : Ellipsoid) (a : Admission) → LinesWalk (readLines 95 2 0 s start) e start a → LinesWalk (readLines 95 2 0 t start) e start a
@@ -199,7 +202,9 @@ module _ (s : List ℕ) (start at passed : ℕ) (words codes newest : List ℕ) 
                 let ek : p .0 ≡ kind = cc in
                 let line : IsLine l = holds-at (LineStands s at) (readLine s at) l next (line-sound s at) el .1 in
                 let fits = subst (Leaves (passed + 2) (m .state .scope) l) eq (leaves (passed + 2) (m .state .scope) l) in
+                let ei : passed + 2 + 1 ≡ passed + 1 + 2 = omega arith in
                 record {
+                  has-number = sym ei ∙ number-next s l at next el (passed + 2) (m .has-number);
                   before = λ ls. m .before (l ∷ ls);
                   phase = after (m .phase) l;
                   state = noted (m .state) p;
@@ -221,7 +226,31 @@ module _ (o : Form (List Line)) (from : ℕ) (f : FormRead) (ef : f ≡ linesFor
   unfolding unlessBad
   unless-fine h er = er ∙ ap (λ f. unlessBad f number line) (sym h ∙ ef)
 
--- ---- the whole sheet: q is what line 1 came to
+-- ---- the whole sheet: q is what line 1 came to, which tells where line 2 stands
+
+module _ (s : List ℕ) (q : FirstLine) (eq : q ≡ firstOf (readHead s)) where
+  place-two : (o : Got Head) → readHead s ≡ o → (n : ℕ) → ((b : Bool) (e : Ellipsoid) (m : ℕ) → q ≡ firstIn b e m → m ≡ n) → (q ≡ FirstLine.Bad → ⊥) → q ≡ firstOf o → 2 ≡ lineNumber s n
+  unfolding firstOf
+  place-two noGot eo n at other e = absurd (other e)
+  place-two (got x m) eo n at other e = number-two s x n (eo ∙ ap (got x) (at (ranged x) (surface x) m e))
+
+  pub two-out-of-range : (n : ℕ) → q ≡ FirstLine.OutOfRange n → 2 ≡ lineNumber s n
+  unfolding firstIn
+  two-out-of-range n h = place-two (readHead s) refl n at (λ e. let z : _≡_ {A = ℕ} 0 1 = cc in omega arith) eq
+    where
+      at : (b : Bool) (e : Ellipsoid) (m : ℕ) → q ≡ firstIn b e m → m ≡ n
+      at true e m i = let z : _≡_ {A = ℕ} 0 1 = cc in absurd (omega arith)
+      at false e m i = cc
+
+  pub two-in-range : (d : Ellipsoid) (n : ℕ) → q ≡ FirstLine.Is d n → 2 ≡ lineNumber s n
+  unfolding firstIn
+  two-in-range d n h = place-two (readHead s) refl n at (λ e. let z : _≡_ {A = ℕ} 0 1 = cc in omega arith) eq
+    where
+      at : (b : Bool) (e : Ellipsoid) (m : ℕ) → q ≡ firstIn b e m → m ≡ n
+      at true e m i = cc
+      at false e m i = let z : _≡_ {A = ℕ} 0 1 = cc in absurd (omega arith)
+
+-- ---- what is answered of it
 
 module _ (s : List ℕ) (q : FirstLine) (eq : q ≡ firstOf (readHead s)) (a : Admission) where
   -- the sheet by its line 1 and its lines

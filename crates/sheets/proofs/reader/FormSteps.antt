@@ -4,12 +4,13 @@ use native.Mathlib.Omega.{arith}
 use mathlib.Core.Path.{_≡_, refl, sym, ap, _∙_}
 use mathlib.Core.Bool.{false}
 use mathlib.Core.List.{List, _∷_}
-use lib.ListN.{length, take}
+use lib.ListN.{length}
 use Rattle.sheets.specs.Trees.{Line, Head}
 use Rattle.sheets.specs.Grammar.{after}
 use Rattle.sheets.specs.code.reader.Reader.{none, got, readLine, readHead, Form, formed, badLine, _thenᶠ_, linesStep, readLines, sheetStep, readSheet}
 use Rattle.sheets.specs.code.reader.Views.{place, linesForm, formOf}
-use Rattle.sheets.proofs.reader.LineNumbers.{countLF, head-step, line-step}
+use Rattle.sheets.specs.LineNumbers.{lineNumber}
+use Rattle.sheets.proofs.reader.LineNumbers.{number-next}
 use Rattle.sheets.proofs.reader.Viewed.{placed-none, placed-got}
 use Rattle.sheets.proofs.reader.Walks.{lines-end, lines-over, lines-step}
 use Rattle.sheets.specs.declared.reader.expr.Read.{Read}
@@ -27,21 +28,14 @@ form-whole s x n e = go (readLines 95 2 0 s n) ∙ sym (ap (λ o. formOf (sheetS
     go (formed ls) = ap (λ k. FormRead.Fine k) (omega arith)
     go (badLine j) = refl
 
--- the line at a place that `form_from` reached from line `first` at `start`: its number has been stepped at each LF since, and whatever the phase at `start`, the lines from it on, in some phase, make the answer
+-- the line at a place that `form_from` reached from line `first` at `start`: it has its number, and whatever the phase at `start`, the lines from it on, in some phase, make the answer
 pub record Reached (s : List ℕ) (start first at number : ℕ) : Type 0 where
-  pub low : 1 ≤ number
-  pub counts : number + countLF (take start s) ≡ countLF (take at s) + first
+  pub has-number : number ≡ lineNumber s at
   pub rest : (p : ℕ) → (q : ℕ) × (linesForm number (readLines (97 - number) number q s at) ≡ linesForm first (readLines (97 - first) first p s start))
 
-pub number-next : (s : List ℕ) (at : ℕ) (r : Read) → r ≡ place (readLine s at) → (n : ℕ) → r ≡ Read.At n → (i j k : ℕ) → i + j ≡ countLF (take at s) + k → i + 1 + j ≡ countLF (take n s) + k
-number-next s at r er n h i j k e = let (x, ex) = placed-got (readLine s at) r er n h in omega (arith, line-step s x at n ex)
-
--- For a reader: where line `first` has one LF less than its number before it, so has every line that is reached; and so has line 2 behind a line 1.
-pub reached-number : (s : List ℕ) (start first at number : ℕ) → first ≡ countLF (take start s) + 1 → Reached s start first at number → number ≡ countLF (take at s) + 1
-reached-number s start first at number e h = omega (arith, e, h .counts)
-
-pub second-number : (s : List ℕ) (x : Head) (start : ℕ) → readHead s ≡ got x start → 2 ≡ countLF (take start s) + 1
-second-number s x start e = omega (arith, head-step s x start e)
+-- the number steps with the line that was read
+pub form-number : (s : List ℕ) (at : ℕ) (r : Read) → r ≡ place (readLine s at) → (n : ℕ) → r ≡ Read.At n → (i : ℕ) → i ≡ lineNumber s at → i + 1 ≡ lineNumber s n
+form-number s at r er n h = let (x, ex) = placed-got (readLine s at) r er n h in number-next s x at n ex
 
 -- ---- the turns of the loop
 module _ (s : List ℕ) (at i p : ℕ) (low : 1 ≤ i) (q : FormRead) (inv : linesForm i (readLines (97 - i) i p s at) ≡ q) where

@@ -1,29 +1,25 @@
--- A line holds exactly one LF, its last byte, so that a line's number is one more than the LFs before it. Assumes nothing.
-use Prim.Native.Nat.{ℕ, zero, suc, _+_, _≤_}
+-- A line holds exactly one LF, its last byte, so that a line's number is one more than the LFs before it: of the lines of a sheet, of the first bad line, and from each line to the next. Assumes nothing.
+use Prim.Native.Nat.{ℕ, zero, suc, _+_, _-_, _<_, _≤_}
 use Prim.Native.String.{String}
 use native.Mathlib.Omega.{arith}
-use mathlib.Core.Path.{_≡_, refl, sym, ap, _∙_}
+use mathlib.Core.Path.{_≡_, refl, sym, ap, subst, _∙_}
 use mathlib.Core.Bool.{Bool, true, false, cond}
 use mathlib.Core.Logic.{_⊎_, inl, inr}
 use mathlib.Core.List.{List, [], _∷_, _++_, append-assoc, append-nil}
 use lib.Dec.{eqb}
-use lib.ListN.{length, take, drop, take-append-drop}
+use lib.ListN.{length, take, drop, length-append, take-append-drop}
 use lib.Seq.{take-append-seam, length-take-le}
 use borrow.Author.Tests.{ne-eqb}
 use Rattle.sheets.specs.Text.{Word, ascii, _⌢_, lf}
 use Rattle.sheets.specs.Trees.{Num, Expr, Exprs, word-expr, num-expr, form-expr, nil, _▸_, Line, Head, Sheet}
 use Rattle.sheets.specs.Grammar.{Letter, Digit, Each, IsWord, IsNum, sign, point, printNum, print, printArgs, IsExpr, AreArgs, ended, IsEnded, headBracket, printHead, lineBracket, printLine, IsLine, printLines, AreLines, after, printSheet, IsSheet, Written, FirstBad, at-head, at-line, at-97}
+use Rattle.sheets.specs.LineNumbers.{countLF, lineNumber, WholeLines, HasLine}
 use Rattle.sheets.specs.code.reader.Reader.{got, readLine, readHead}
 use Rattle.sheets.proofs.reader.Spans.{Spans, spans-drop, holds-at}
 use Rattle.sheets.proofs.reader.CodeLaws.{word-chars}
 use Rattle.sheets.proofs.reader.LineLaws.{HeadStands, head-sound, LineStands, line-sound}
 
 infixr 20 _also_
--- how many bytes are LF
-unfoldable pub countLF : List ℕ → ℕ
-countLF [] = 0
-countLF (b ∷ s) = cond (eqb b 10) 1 0 + countLF s
-
 pub count-append : (a b : List ℕ) → countLF (a ++ b) ≡ countLF a + countLF b
 unfolding countLF
 count-append [] b = omega arith
@@ -39,7 +35,7 @@ _also_ {a} {b} p q = record { zero-lf = count-append a b ∙ omega (arith, p .ze
 pub text : (t : String) → countLF (ascii t) ≡ 0 → NoLF (ascii t)
 text t e = record { zero-lf = e }
 
-each-none : (P : ℕ → Type 0) → ((b : ℕ) → P b → b ≡ 10 → ⊥) → (s : List ℕ) → Each P s → NoLF s
+pub each-none : (P : ℕ → Type 0) → ((b : ℕ) → P b → b ≡ 10 → ⊥) → (s : List ℕ) → Each P s → NoLF s
 unfolding countLF
 each-none P f [] h = record { zero-lf = refl }
 each-none P f (b ∷ s) h = record { zero-lf = rw (ne-eqb b 10 (f b (h .0))) (omega (arith, each-none P f s (h .1) .zero-lf)) }
@@ -54,7 +50,7 @@ word-none w h = each-none (λ b. Letter b ⊎ Digit b) other w (word-chars w h)
 digits-none : (ds : List ℕ) → Each Digit ds → NoLF ds
 digits-none ds h = each-none Digit (λ b h e. omega arith) ds h
 
-num-none : (q : Num) → IsNum q → NoLF (printNum q)
+pub num-none : (q : Num) → IsNum q → NoLF (printNum q)
 unfolding countLF
 num-none q h = signed (q .minus) also (digits-none (q .whole) (h .0) also pointed (q .part) (h .3))
   where
@@ -103,7 +99,28 @@ lines-lf p (l ∷ ls) h = count-append (printLine l) (printLines ls) ∙ omega (
 pub sheet-lf : (c : Sheet) → IsSheet c → countLF (printSheet c) ≡ length (c .lines) + 1
 sheet-lf c h = count-append (printHead (c .head)) (printLines (c .lines)) ∙ omega (arith, one-count (printHead (c .head)) (ended-lf (headBracket (c .head)) (h .0)), lines-lf 0 (c .lines) (h .1))
 
--- ---- the number of a line
+-- ---- what begins behind whole lines has one more for its number than they hold LFs
+
+pub begins : (s t : List ℕ) (b : ℕ) (r : List ℕ) → s ≡ t ++ (b ∷ r) → WholeLines t → HasLine s (countLF t + 1)
+begins s t b r e w =
+    let n : length s ≡ length t + suc (length r) = ap length e ∙ length-append t (b ∷ r) in
+    let f : take (length t) s ≡ t = ap (take (length t)) e ∙ take-append-seam t (b ∷ r) in
+    (length t, omega arith, subst WholeLines (sym f) w, ap (λ z. countLF z + 1) (sym f))
+
+ends-lf : (u : List ℕ) (p : ℕ) (ls : List Line) → AreLines p ls → (v : List ℕ) × ((u ⌢ lf) ++ printLines ls ≡ v ⌢ lf)
+ends-lf u p [] h = (u, append-nil (u ⌢ lf))
+ends-lf u p (l ∷ ls) h =
+    let (t, e, z) = line-lf l (h .0) in
+    let (v, g) = ends-lf ((u ⌢ lf) ++ t) (after p l) ls (h .2) in
+    (v, sym (append-assoc (u ⌢ lf) (printLine l) (printLines ls)) ∙ ap (λ x. ((u ⌢ lf) ++ x) ++ printLines ls) e ∙ ap (λ x. x ++ printLines ls) (sym (append-assoc (u ⌢ lf) t lf)) ∙ g)
+
+sheet-ends : (c : Sheet) → IsSheet c → WholeLines (printSheet c)
+sheet-ends c h =
+    let (t, e, z) = ended-lf (headBracket (c .head)) (h .0) in
+    let (v, g) = ends-lf t 0 (c .lines) (h .1) in
+    inr (v, ap (λ x. x ++ printLines (c .lines)) e ∙ g)
+
+-- ---- the lines of a sheet
 
 -- the bytes of the first k lines, so that line k + 1 begins after them
 unfoldable pub firstLines : ℕ → Sheet → List ℕ
@@ -120,52 +137,66 @@ lines-split zero ls = refl
 lines-split (suc k) [] = refl
 lines-split (suc k) (l ∷ ls) = ap (λ t. printLine l ++ t) (lines-split k ls) ∙ sym (append-assoc (printLine l) (printLines (take k ls)) (printLines (drop k ls)))
 
+-- a line is not empty
+some-byte : (s r : List ℕ) → OneLF s → (b : ℕ) × (t : List ℕ) × (s ++ r ≡ b ∷ t)
+some-byte s r ([], e, z) = (10, r, ap (λ x. x ++ r) e)
+some-byte s r (b ∷ t, e, z) = (b, (t ⌢ lf) ++ r, ap (λ x. x ++ r) e)
+
+some-line : (k p : ℕ) (ls : List Line) → AreLines p ls → k < length ls → (b : ℕ) × (t : List ℕ) × (printLines (drop k ls) ≡ b ∷ t)
+some-line k p [] h n = absurd (omega arith)
+some-line zero p (l ∷ ls) h n = some-byte (printLine l) (printLines ls) (line-lf l (h .0))
+some-line (suc k) p (l ∷ ls) h n = some-line k (after p l) ls (h .2) (omega arith)
+
 module _ (s : List ℕ) (c : Sheet) (h : Written s c) where
+  -- the first lines are a sheet
+  module _ (k : ℕ) where
+    abbrev firsts : Sheet
+    firsts = record { head = c .head; lines = take k (c .lines) }
+
+    are-sheet : k ≤ length (c .lines) → IsSheet firsts
+    are-sheet le = let n : length (take k (c .lines)) ≡ k = length-take-le k (c .lines) le in (h .1 .0, lines-take 0 k (c .lines) (h .1 .1), omega (arith, h .1 .2))
+
+    split : s ≡ printSheet firsts ++ printLines (drop k (c .lines))
+    split = h .0 ∙ ap (λ t. printHead (c .head) ++ t) (lines-split k (c .lines)) ∙ sym (append-assoc (printHead (c .head)) (printLines (take k (c .lines))) (printLines (drop k (c .lines))))
+
   -- the bytes before line k + 1 are the first k lines
   pub line-begins : (k : ℕ) → take (length (firstLines k c)) s ≡ firstLines k c
   unfolding firstLines
   line-begins zero = refl
-  line-begins (suc k) =
-      let first = printLines (take k (c .lines)) in
-      let rest = printLines (drop k (c .lines)) in
-      let e : s ≡ firstLines (suc k) c ++ rest = h .0 ∙ ap (λ t. printHead (c .head) ++ t) (lines-split k (c .lines)) ∙ sym (append-assoc (printHead (c .head)) first rest) in
-      ap (λ t. take (length (firstLines (suc k) c)) t) e ∙ take-append-seam (firstLines (suc k) c) rest
+  line-begins (suc k) = ap (take (length (firstLines (suc k) c))) (split k) ∙ take-append-seam (firstLines (suc k) c) (printLines (drop k (c .lines)))
 
   first-lf : (k : ℕ) → k ≤ length (c .lines) + 1 → countLF (firstLines k c) ≡ k
   unfolding firstLines countLF
   first-lf zero le = refl
-  first-lf (suc k) le =
-      let n : length (take k (c .lines)) ≡ k = length-take-le k (c .lines) (omega arith) in
-      sheet-lf (record { head = c .head; lines = take k (c .lines) }) (h .1 .0, lines-take 0 k (c .lines) (h .1 .1), omega (arith, h .1 .2)) ∙ omega arith
+  first-lf (suc k) le = let n : length (take k (c .lines)) ≡ k = length-take-le k (c .lines) (omega arith) in sheet-lf (firsts k) (are-sheet k (omega arith)) ∙ omega arith
 
   -- and k LFs stand among them: a line's number is one more than the LFs before it
-  pub line-number : (k : ℕ) → k ≤ length (c .lines) + 1 → countLF (take (length (firstLines k c)) s) ≡ k
-  line-number k le = ap countLF (line-begins k) ∙ first-lf k le
+  pub line-number : (k : ℕ) → k ≤ length (c .lines) + 1 → lineNumber s (length (firstLines k c)) ≡ k + 1
+  line-number k le = ap (λ t. countLF t + 1) (line-begins k) ∙ ap (λ n. n + 1) (first-lf k le)
 
--- ---- the number of the first bad line: the bytes before it are whole lines, and hold one LF less
-abbrev pub WholeLines : List ℕ → Type 0
-WholeLines t = (t ≡ []) ⊎ ((u : List ℕ) × (t ≡ u ⌢ lf))
+  line-there : (k : ℕ) → k ≤ length (c .lines) → HasLine s (k + 1)
+  unfolding firstLines countLF
+  line-there zero le = let (b, r, e) = some-byte (printHead (c .head)) (printLines (c .lines)) (ended-lf (headBracket (c .head)) (h .1 .0)) in begins s [] b r (h .0 ∙ e) (inl refl)
+  line-there (suc k) le =
+      let (b, r, e) = some-line k 0 (c .lines) (h .1 .1) (omega arith) in
+      subst (λ n. HasLine s (n + 1)) (first-lf (suc k) (omega arith)) (begins s (printSheet (firsts k)) b r (split k ∙ ap (λ x. printSheet (firsts k) ++ x) e) (sheet-ends (firsts k) (are-sheet k (omega arith))))
 
-ends-lf : (u : List ℕ) (p : ℕ) (ls : List Line) → AreLines p ls → (v : List ℕ) × ((u ⌢ lf) ++ printLines ls ≡ v ⌢ lf)
-ends-lf u p [] h = (u, append-nil (u ⌢ lf))
-ends-lf u p (l ∷ ls) h =
-    let (t, e, z) = line-lf l (h .0) in
-    let (v, g) = ends-lf ((u ⌢ lf) ++ t) (after p l) ls (h .2) in
-    (v, sym (append-assoc (u ⌢ lf) (printLine l) (printLines ls)) ∙ ap (λ x. ((u ⌢ lf) ++ x) ++ printLines ls) e ∙ ap (λ x. x ++ printLines ls) (sym (append-assoc (u ⌢ lf) t lf)) ∙ g)
+  -- the bytes have each line that the sheet has
+  pub has-line : (j : ℕ) → 1 ≤ j → j ≤ length (c .lines) + 1 → HasLine s j
+  has-line j low high = subst (HasLine s) (omega (arith, low)) (line-there (j - 1) (omega (arith, low, high)))
 
-sheet-ends : (c : Sheet) → IsSheet c → (v : List ℕ) × (printSheet c ≡ v ⌢ lf)
-sheet-ends c h =
-    let (t, e, z) = ended-lf (headBracket (c .head)) (h .0) in
-    let (v, g) = ends-lf t 0 (c .lines) (h .1) in
-    (v, ap (λ x. x ++ printLines (c .lines)) e ∙ g)
-
-pub bad-number : (s : List ℕ) (j : ℕ) → FirstBad s j → (t r : List ℕ) × (s ≡ t ⌢ r) × WholeLines t × (j ≡ countLF t + 1)
+-- ---- the first bad line: the bytes before it are whole lines, and hold one LF less
+first-there : (s : List ℕ) → 0 < length s → HasLine s 1
 unfolding countLF
-bad-number s j (at-head h) = ([], s, refl, inl refl, refl)
-bad-number s j (at-line c b r e h w) = (printSheet c, b ∷ r, e, inr (sheet-ends c h), omega (arith, sheet-lf c h))
-bad-number s j (at-97 c b r e h n) = (printSheet c, b ∷ r, e, inr (sheet-ends c h), omega (arith, sheet-lf c h))
+first-there [] n = absurd (omega arith)
+first-there (b ∷ s) n = begins (b ∷ s) [] b s refl (inl refl)
 
--- ---- the same as the reader goes from line to line
+pub bad-number : (s : List ℕ) (j : ℕ) → 0 < length s → FirstBad s j → HasLine s j
+bad-number s j n (at-head h) = first-there s n
+bad-number s j n (at-line c b r e h w) = subst (HasLine s) (omega (arith, sheet-lf c h)) (begins s (printSheet c) b r e (sheet-ends c h))
+bad-number s j n (at-97 c b r e h l) = subst (HasLine s) (omega (arith, sheet-lf c h, l)) (begins s (printSheet c) b r e (sheet-ends c h))
+
+-- ---- from each line to the next, as the reader goes: what every loop over lines steps its number by
 spans-count : (s x : List ℕ) (at n : ℕ) → Spans s x at n → n ≤ length s → countLF (take n s) ≡ countLF (take at s) + countLF x
 spans-count s x at n p h =
     let a : countLF (take at s) + countLF (drop at s) ≡ countLF s = sym (count-append (take at s) (drop at s)) ∙ ap countLF (take-append-drop at s) in
@@ -173,13 +204,16 @@ spans-count s x at n p h =
     let d : countLF (drop at s) ≡ countLF x + countLF (drop n s) = ap countLF (spans-drop s x at n p h) ∙ count-append x (drop n s) in
     omega arith
 
-pub line-step : (s : List ℕ) (l : Line) (at n : ℕ) → readLine s at ≡ got l n → countLF (take n s) ≡ countLF (take at s) + 1
-line-step s l at n e =
-    let p = holds-at (LineStands s at) (readLine s at) l n (line-sound s at) e in
-    omega (arith, spans-count s (printLine l) at n (p .0) (p .2), one-count (printLine l) (line-lf l (p .1)))
+pub one-further : (s x : List ℕ) (at n : ℕ) → Spans s x at n → n ≤ length s → OneLF x → (i : ℕ) → i ≡ lineNumber s at → i + 1 ≡ lineNumber s n
+one-further s x at n p h o i e = omega (arith, e, spans-count s x at n p h, one-count x o)
 
-pub head-step : (s : List ℕ) (h : Head) (n : ℕ) → readHead s ≡ got h n → countLF (take n s) ≡ 1
+pub number-next : (s : List ℕ) (l : Line) (at n : ℕ) → readLine s at ≡ got l n → (i : ℕ) → i ≡ lineNumber s at → i + 1 ≡ lineNumber s n
+number-next s l at n e =
+    let p = holds-at (LineStands s at) (readLine s at) l n (line-sound s at) e in
+    one-further s (printLine l) at n (p .0) (p .2) (line-lf l (p .1))
+
+pub number-two : (s : List ℕ) (h : Head) (n : ℕ) → readHead s ≡ got h n → 2 ≡ lineNumber s n
 unfolding countLF
-head-step s h n e =
+number-two s h n e =
     let p = holds-at (HeadStands s) (readHead s) h n (head-sound s) e in
-    spans-count s (printHead h) 0 n (p .0) (p .2) ∙ omega (arith, one-count (printHead h) (ended-lf (headBracket h) (p .1)))
+    one-further s (printHead h) 0 n (p .0) (p .2) (ended-lf (headBracket h) (p .1)) 1 refl

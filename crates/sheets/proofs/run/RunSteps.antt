@@ -19,6 +19,7 @@ use Rattle.sheets.specs.declared.Evaluated.{Evaluated}
 use Rattle.sheets.specs.Text.{Word}
 use Rattle.sheets.specs.Trees.{Expr, Line, let-line, numbered}
 use Rattle.sheets.specs.Grammar.{IsWord, after as afterPhase}
+use Rattle.sheets.specs.LineNumbers.{lineNumber}
 use Rattle.sheets.specs.Kinds.{kindOf, kindCode}
 use Rattle.sheets.specs.Names.{givenOn}
 use Rattle.sheets.specs.Entries.{entryLines, total}
@@ -36,6 +37,7 @@ use Rattle.sheets.specs.code.run.Keeping.{Lined, FixesKept}
 use Rattle.sheets.specs.code.run.Evaluating.{Answers}
 use Rattle.sheets.specs.code.run.Running.{WithReadings, LetWith, GivenAt, stoppedAt, Runs}
 use Rattle.sheets.specs.code.run.Wholes.{Names, LineDoes}
+use Rattle.sheets.proofs.reader.LineNumbers.{number-next}
 use Rattle.sheets.proofs.reader.LineSteps.{head-says}
 use Rattle.sheets.proofs.reader.Inverse.{limit-read}
 use Rattle.sheets.proofs.reader.Walks.{Step, walk-end, walk-line}
@@ -64,13 +66,14 @@ zero-sum = refl
 abbrev first : ℕ → Slot → List Float → List ℕ → Stage
 first at x f d = record { at = at; line = 2; slots = replicate 96 x; words = replicate 96 0; kinds = replicate 96 0; newest = replicate 512 0; shown = replicate 96 0; sum = ofBits binary64 0; floats = f; n = 0; written = 0; out = d }
 
-pub runs-start : (s : List ℕ) (at : ℕ) (e : Ellipsoid) (rs : List Float) (d : List ℕ) (x : Slot) (f : List Float) → WithReadings rs (replicate 2940 (ofBits binary64 0)) f
+pub runs-start : (s : List ℕ) (at : ℕ) → 2 ≡ lineNumber s at → (e : Ellipsoid) (rs : List Float) (d : List ℕ) (x : Slot) (f : List Float) → WithReadings rs (replicate 2940 (ofBits binary64 0)) f
     → (r : RunAnswer) (out′ : List ℕ) → RunsFrom s e rs d (first at x f d) r out′ → Runs s at e rs d r out′
 unfolding fixes
-runs-start s at e rs d x f hf r out′ h = record {
+runs-start s at two e rs d x f hf r out′ h = record {
   is = λ size ls el st ee ek en un.
       h .is ls st (record {
         size = size;
+        has-number = two;
         left = 95;
         phase = 0;
         reads = el;
@@ -90,6 +93,10 @@ runs-start s at e rs d x f hf r out′ h = record {
 }
 
 module _ {s : List ℕ} {e : Ellipsoid} {rs : List Float} {d : List ℕ} {h : Stage} where
+  -- of no line but one that has its number
+  pub runs-numbered : ((h .line ≡ lineNumber s (h .at)) → ⊥) → (r : RunAnswer) (out′ : List ℕ) → RunsFrom s e rs d h r out′
+  runs-numbered not r out′ = record { is = λ ls st now un. absurd (not (now .has-number)) }
+
   pub runs-end : length s ≤ h .at → (r : RunAnswer) → r ≡ record { number = 0; line = 0; written = h .written } → RunsFrom s e rs d h r (h .out)
   unfolding steps
   runs-end over r er = record {
@@ -155,6 +162,7 @@ module _ {s : List ℕ} {e : Ellipsoid} {rs : List Float} {d : List ℕ} {h : St
           let st′ = given (h .line) (says .0) v st in
           onwards (h .line) st st′ (sp .line) (sp .rest) (fs ++ []) (let-step (h .line) st (says .0) x fs v eo (sp .line) ex (sp .rest) un) d q out′ (hr .is (sp .rest) st′ (record {
             size = now .size;
+            has-number = subst (λ z. h .line + 1 ≡ lineNumber s z) (sym en) (number-next s (sp .line) (h .at) (sp .next) (sp .stands) (h .line) (now .has-number));
             left = sp .fewer;
             phase = afterPhase (now .phase) (sp .line);
             reads = subst (λ z. readLines (sp .fewer) (h .line + 1) (afterPhase (now .phase) (sp .line)) s z ≡ formed (sp .rest)) (sym en) (sp .goes-on);
@@ -199,6 +207,7 @@ module _ {s : List ℕ} {e : Ellipsoid} {rs : List Float} {d : List ℕ} {h : St
           let (st′, es, b) = comes .goes-on kind count er in
           onwards (h .line) st st′ (sp .line) (sp .rest) [] es d q out′ (on .is (sp .rest) st′ (record {
             size = now .size;
+            has-number = subst (λ z. h .line + 1 ≡ lineNumber s z) (sym en) (number-next s (sp .line) (h .at) (sp .next) (sp .stands) (h .line) (now .has-number));
             left = sp .fewer;
             phase = afterPhase (now .phase) (sp .line);
             reads = subst (λ z. readLines (sp .fewer) (h .line + 1) (afterPhase (now .phase) (sp .line)) s z ≡ formed (sp .rest)) (sym en) (sp .goes-on);

@@ -8,6 +8,7 @@ use Rattle.numbers.specs.Lengths.{metres}
 use Rattle.frames.specs.declared.Ellipsoid.{Ellipsoid}
 use Rattle.sheets.specs.declared.rows.value.Slot.{Slot}
 use Rattle.sheets.specs.Trees.{Line}
+use Rattle.sheets.specs.LineNumbers.{lineNumber}
 use Rattle.sheets.specs.Entries.{entryLines, total}
 use Rattle.sheets.specs.Aparts.{fixes}
 use Rattle.sheets.specs.Machine.{State}
@@ -31,9 +32,10 @@ pub record Stage : Type 0 where
   pub written : ℕ
   pub out : List ℕ
 
--- the lines ls are left, and what is held stands for the machine's state; d is what was lent for the text, and the names' lets stand on the lines `lets`
+-- the line has its number, the lines ls are left, and what is held stands for the machine's state; d is what was lent for the text, and the names' lets stand on the lines `lets`
 pub record Now (s : List ℕ) (e : Ellipsoid) (rs : List Float) (d : List ℕ) (h : Stage) (ls : List Line) (st : State) : Type 0 where
   pub size : length d ≡ 24576
+  pub has-number : h .line ≡ lineNumber s (h .at)
   pub left : ℕ
   pub phase : ℕ
   pub reads : readLines left (h .line) phase s (h .at) ≡ formed ls

@@ -17,10 +17,11 @@ use crate::reader::lines::line_head;
 use crate::rows::kinds::opens;
 use frames::Ellipsoid;
 ghost use mathlib.Core.Path.{_≡_};
-ghost use Prim.Native.Nat.{ℕ, _≤_, _-_};
+ghost use Prim.Native.Nat.{ℕ, _-_};
 ghost use Rattle.sheets.specs.code.reader.Reader.{got, let-word, rest, readLine, readLines, readSheet};
 ghost use Rattle.sheets.specs.code.reader.Views.{linesForm};
 ghost use Rattle.sheets.specs.Trees.{show-line};
+ghost use Rattle.sheets.specs.LineNumbers.{lineNumber};
 ghost use Rattle.sheets.specs.Answers.{ofForm};
 ghost use Rattle.sheets.specs.declared.check.admit.Outcome.{Outcome};
 ghost use Rattle.sheets.specs.code.check.Walking.{ForKnown, BarredWord, ForScope, LineHas, WordHas, WholeHas, shortKind, LinesWalk, unlessBad, Admits};
@@ -167,7 +168,7 @@ fn refused(number: u8, line: usize) -> Admission
 
 // The refusal `number` of a line, unless a line from line `from` on, which stands at `at`, is not of the grammar: that comes first.
 fn unless_bad(s: &[u8], at: usize, from: usize, number: u8, line: usize) -> Admission
-    requires { ⌜ 1 ≤ from ⌝ }
+    requires { ⌜ from ≡ lineNumber (now s) at ⌝ }
     ensures { λ r. ⌜ ((p : ℕ) → r .outcome ≡ unlessBad (linesForm from (readLines (97 - from) from p (now (s .entry)) at)) number line) ⌝ }
 {
     let f = form_from(s, at, from);
@@ -177,10 +178,11 @@ fn unless_bad(s: &[u8], at: usize, from: usize, number: u8, line: usize) -> Admi
     }
 }
 
-// The lines from line 2, which stands at `start`. Line `passed` + 2 stands at `at`; a 97th is one too many.
+// The lines from line 2, which stands at `start`. The number of the line at `at` is `passed` + 2, stepped at each LF; a 97th is one too many.
 // What the reader reads is never refused by 3, so that a 3 is final.
 // `s` is the sheet as a slice of this function's own, which is lent as it stands; a slice that came from the caller would be copied for every call.
 fn walk_lines(sheet: &[u8], start: usize, e: Ellipsoid) -> Admission
+    requires { ⌜ 2 ≡ lineNumber (now sheet) start ⌝ }
     ensures { λ r. ⌜ LinesWalk (readLines 95 2 0 (now (sheet .entry)) start) e start r ⌝ }
 {
     let size = sheet.len();

@@ -4,7 +4,8 @@ use crate::reader::head::HeadRead;
 use crate::reader::head::head;
 use crate::reader::lines::line_end;
 ghost use mathlib.Core.Path.{_≡_};
-ghost use Prim.Native.Nat.{ℕ, _-_, _≤_};
+ghost use Prim.Native.Nat.{ℕ, _-_};
+ghost use Rattle.sheets.specs.LineNumbers.{lineNumber};
 ghost use Rattle.sheets.specs.code.reader.Reader.{readLines, readSheet};
 ghost use Rattle.sheets.specs.code.reader.Views.{linesForm, formOf};
 
@@ -14,9 +15,9 @@ pub enum FormRead {
     Bad(usize),
 }
 
-// The form pass over the lines from line `first` on, which stands at `start`, whatever stands before it. `number` is the number of the line at `at`: it is stepped at each LF, and where `first` is one more than the LFs before `start`, it is one more than the LFs before `at`.
+// The form pass over the lines from line `first` on, which stands at `start`. `number` is the number of the line at `at`, stepped at each LF.
 pub(crate) fn form_from(s: &[u8], start: usize, first: usize) -> FormRead
-    requires { ⌜ 1 ≤ first ⌝ }
+    requires { ⌜ first ≡ lineNumber (now s) start ⌝ }
     ensures { λ r. ⌜ ((p : ℕ) → r ≡ linesForm first (readLines (97 - first) first p (now (s .entry)) start)) ⌝ }
 {
     let mut at = start;

@@ -19,6 +19,7 @@ use crate::run::whole::whole_line;
 use frames::Ellipsoid;
 ghost use mathlib.Core.Path.{_≡_};
 ghost use Prim.Native.Nat.{_+_, _≤_};
+ghost use Rattle.sheets.specs.LineNumbers.{lineNumber};
 ghost use Rattle.sheets.specs.code.run.Running.{LetWith, GivenAt, stoppedAt, Runs};
 
 // What a let gives, from the place of its expression: the kind's code of its value, which lies at `top`, and the place of the next line.
@@ -77,10 +78,11 @@ fn stopped(r: Evaluated, line: usize, written: usize) -> RunAnswer
     }
 }
 
-// The lines from line 2, which stands at `from`.
+// The lines from line 2, which stands at `from`. The number of the line at `at` is `line` + 1 before its turn and `line` in it, stepped at each LF.
 // The table of names stays here; slot 0 stays empty. `words`, `kinds` and `floats` have its words, kinds and values, each at its slot's place, for the evaluator; `newest` is that of newest.rt.
 // `shown` has 1 at the place of each name shown whose value is a g, and a place is never given to another name: so the position stays where it lies among the floats. `sum` is the sum of the lengths shown.
 pub fn run_lines(s: &[u8], from: usize, e: Ellipsoid, readings: &[f64], out: &mut [u8]) -> RunAnswer
+    requires { ⌜ 2 ≡ lineNumber (now s) from ⌝ }
     ensures { λ r. ⌜ Runs (now (s .entry)) from e (now (readings .entry)) (now (out .entry)) r (now (out .exit)) ⌝ }
 {
     let mut t = [empty_slot(); 96];

@@ -1,9 +1,11 @@
 -- `boresheet::readings::readings_of` meets its contract. Assumes nothing.
 use native.Mathlib.Omega.{arith}
-use Prim.Native.Nat.{_-_, _≤_}
+use Prim.Native.Nat.{_+_, _-_, _≤_}
 use mathlib.Core.Path.{_≡_, refl}
 use lib.ListN.{length, take, length-set}
 use Rattle.boresheet.specs.code.Readings.{readingsFrom, readingsOf}
+use Rattle.sheets.specs.LineNumbers.{countLF, lineNumber}
+use Rattle.boresheet.proofs.ReadingNumbers.{reading-next}
 use Rattle.boresheet.proofs.ReadingSteps.{file-all, file-long, file-short, file-bad, file-turn}
 use borrow.Author.Needs.{needs}
 use Rattle.boresheet.proofs.readings.readings_of.Statement.{statement}
@@ -11,14 +13,14 @@ use Rattle.boresheet.proofs.readings.readings_of.Tie as tie
 
 abbrev Inv-loop : tie.InvT-loop
 Inv-loop s values₀ at₀ i₀ values at i =
-    (i ≤ 16) × (length values ≡ 16) × (readingsFrom (16 - i) (take i values) s at ≡ readingsOf s)
+    (i ≤ 16) × (length values ≡ 16) × (readingsFrom (16 - i) (take i values) s at ≡ readingsOf s) × (i + 1 ≡ lineNumber s at)
 
 abbrev μ-loop : tie.MeasureT-loop
 μ-loop s values₀ at₀ i₀ values at i = 16 - i
 
 loop-holds : tie.Need-loop-holds Inv-loop μ-loop
-unfolding readingsOf
-loop-holds c = (omega arith, refl, refl)
+unfolding readingsOf countLF
+loop-holds c = (omega arith, refl, refl, refl)
 
 no-readings-requires : tie.Need-no-readings-requires Inv-loop μ-loop
 no-readings-requires c κs = search needs
@@ -63,7 +65,7 @@ loop-less c = omega arith
 loop-again : tie.Need-loop-again Inv-loop μ-loop
 loop-again c =
     let v = c .before .before .before .before .before .before .loop .inv in
-    (omega arith, simp length-set (v .1), file-turn _ _ _ _ (v .1) (v .0) _ (v .2) (c .before .before .before .before .before .loop-test .taken) (c .before .before .before .before .if1 .left) _ (c .before .before .before .reading .ensures) _ _ (c .before .r .given .1))
+    (omega arith, simp length-set (v .1), file-turn _ _ _ _ (v .1) (v .0) _ (v .2) (c .before .before .before .before .before .loop-test .taken) (c .before .before .before .before .if1 .left) _ (c .before .before .before .reading .ensures) _ _ (c .before .r .given .1), reading-next _ _ _ (c .before .before .before .reading .ensures) _ _ (c .before .r .given .1) _ (v .3))
 
 no-readings-requires-3 : tie.Need-no-readings-requires-3 Inv-loop μ-loop
 no-readings-requires-3 c κs = search needs

@@ -21,7 +21,7 @@ slice-aggregate-s : tie.Need-slice-aggregate-s Inv-loop μ-loop
 slice-aggregate-s c = sym (ap length (take-length (c .before .before .args .sheet .now)))
 
 loop-holds : tie.Need-loop-holds Inv-loop μ-loop
-loop-holds c = (omega arith, refl, refl, take-length _, midway-start _ _)
+loop-holds c = (omega arith, refl, refl, take-length _, midway-start _ (c .before .before .args .sheet .now) _ (take-length _) (search needs))
 
 refused-requires : tie.Need-refused-requires Inv-loop μ-loop
 refused-requires c κs = search needs
@@ -45,7 +45,7 @@ returns-2 : tie.Need-returns-2 Inv-loop μ-loop
 returns-2 c = walk-same _ _ (c .before .before .before .before .before .before .before .before .before .before .before .loop .inv .3) _ _ _ (walk-three _ _ _ _ _ _ _ (c .before .before .before .before .before .before .before .before .before .before .before .loop .inv .4) (c .before .before .before .before .before .before .before .before .before .before .loop-test .taken) _ (c .before .before .before .before .before .line-kind .ensures .is _ _ (_, c .before .before .before .before .before .before .before .before .before .before .before .loop .inv .4 .stands)) (c .before .before .before .before .before .before .before .before .before .if1 .left) (c .before .before .before .r .given .1 ∙ ap LineKind.Refused (c .before .if2 .taken)) _ _ (c .refused2 .ensures))
 
 unless-bad-requires : tie.Need-unless-bad-requires Inv-loop μ-loop
-unless-bad-requires c κs = omega arith
+unless-bad-requires c κs = c .before .before .before .before .before .before .before .before .before .before .loop .inv .4 .has-number
 
 returns-3 : tie.Need-returns-3 Inv-loop μ-loop
 returns-3 c = walk-same _ _ (c .before .before .before .before .before .before .before .before .before .before .before .loop .inv .3) _ _ _ (walk-fault _ _ _ _ _ _ _ (c .before .before .before .before .before .before .before .before .before .before .before .loop .inv .4) (c .before .before .before .before .before .before .before .before .before .before .loop-test .taken) _ (c .before .before .before .before .before .line-kind .ensures .is _ _ (_, c .before .before .before .before .before .before .before .before .before .before .before .loop .inv .4 .stands)) (c .before .before .before .before .before .before .before .before .before .if1 .left) _ (c .before .before .before .r .given .1) _ _ (c .unless-bad .ensures _))

@@ -28,7 +28,7 @@ put-readings-requires : tie.Need-put-readings-requires Inv-loop μ-loop
 put-readings-requires c κs = search needs
 
 loop-holds : tie.Need-loop-holds Inv-loop μ-loop
-loop-holds c = (simp length-replicate, omega arith, omega arith, refl, runs-start _ _ _ _ _ _ _ (c .put-readings .ensures))
+loop-holds c = (simp length-replicate, omega arith, omega arith, refl, runs-start _ _ (search needs) _ _ _ _ _ (c .put-readings .ensures))
 
 add-line : tie.Need-add-line Inv-loop μ-loop
 add-line c = omega arith
