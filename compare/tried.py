@@ -15,6 +15,7 @@ from pathlib import Path
 from tried_aparts import aparts
 from tried_cases import WGS84, bits, joined, passes, refused, shown, stops
 from tried_lending import lending
+from tried_numbers import line_numbers
 from tried_table import NO_ROWS, TABLE
 from tried_totals import TOTAL, totals
 
@@ -263,7 +264,7 @@ def first_apart():
 def main(folder):
     count = 0
     with open(folder / "stdin", "w") as given, open(folder / "stdout", "w") as expected:
-        for cases in sheets_to_try, sizes, lending, grammar, order, stopping, showing, operators, table, whole_turn, totals, first_totalled, aparts, first_apart:
+        for cases in sheets_to_try, sizes, lending, grammar, order, stopping, showing, operators, table, whole_turn, totals, first_totalled, aparts, first_apart, line_numbers:
             for sheet, said in cases():
                 given.write(sheet)
                 expected.write(said)

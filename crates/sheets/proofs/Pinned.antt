@@ -1,4 +1,4 @@
--- The frames made and the names given, which the claim speaks of, and the shows, which request Three's sentences speak of, by computation over sheets that pin them. Assumes nothing.
+-- The frames made and the names given, which the claim speaks of, the shows, which request Three's sentences speak of, and the numbers of lines, by computation over sheets that pin them. Assumes nothing.
 use mathlib.Core.Path.{_≡_, refl, subst}
 use mathlib.Core.List.{List, [], _∷_, map}
 use mathlib.Core.Option.{Option, none, some}
@@ -10,6 +10,7 @@ use Rattle.sheets.specs.declared.Value.the-variants.{Frame}
 use Rattle.sheets.specs.Text.{ascii}
 use Rattle.sheets.specs.Trees.{Sheet}
 use Rattle.sheets.specs.Grammar.{Written, Form, formed, badLine, Reads}
+use Rattle.sheets.specs.LineNumbers.{countLF, lineNumber}
 use Rattle.sheets.specs.Names.{Given, givenOn}
 use Rattle.sheets.specs.Kinds.{Kind, kindOf, number, geodetic, vector, frame}
 use Rattle.frames.specs.declared.Orientation.the-variants.{Enu, Ned, Wan}
@@ -117,3 +118,12 @@ read = record {
 
 pub pinned-sheets : PinnedSheets Pins
 pinned-sheets = record { pole = pins (read .pole); nested = pins (read .nested); refused-frame = pins (read .refused-frame); shown-twice = pins (read .shown-twice) }
+
+-- ---- the number of a line, by a place: where lines 1 to 3 begin, within line 2, and where a fourth would begin
+
+abbrev threeLines : List ℕ
+threeLines = ascii "(ellipsoid wgs84)\n(show r0)\n(total)\n"
+
+pub line-numbers : (lineNumber threeLines 0 ≡ 1) × (lineNumber threeLines 18 ≡ 2) × (lineNumber threeLines 28 ≡ 3) × (lineNumber threeLines 25 ≡ 2) × (lineNumber threeLines 36 ≡ 4)
+unfolding countLF
+line-numbers = (refl, refl, refl, refl, refl)

@@ -129,6 +129,10 @@ module _ {s : List ℕ} {e : Ellipsoid} {rs : List Float} {d : List ℕ} {h : St
           subst (λ ys. Unstuck (steps (numbered (h .line) ys) st) → Tells (steps (numbered (h .line) ys) st) d q out′) (sym (sp .all)) (k ls st now sp) un;
     }
 
+    -- and the next line, wherever the code has found it, has the next number
+    number-after : (ls : List Line) (st : State) (now : Now s e rs d h ls st) (sp : Step s (now .left) (h .line) (now .phase) (h .at) ls (now .reads)) (next : ℕ) → next ≡ sp .next → h .line + 1 ≡ lineNumber s next
+    number-after ls st now sp next en = number-next s (sp .line) (h .at) (sp .next) (sp .stands) (h .line) (now .has-number) ∙ ap (lineNumber s) (sym en)
+
     pub runs-bad : readLine s (h .at) ≡ noGot → (q : RunAnswer) (out′ : List ℕ) → RunsFrom s e rs d h q out′
     runs-bad bad q out′ = by-line q out′ (λ ls st now sp un. let i = sp .stands in let z : _≡_ {A = ℕ} 0 1 = cc in absurd (omega arith))
 
@@ -162,7 +166,7 @@ module _ {s : List ℕ} {e : Ellipsoid} {rs : List Float} {d : List ℕ} {h : St
           let st′ = given (h .line) (says .0) v st in
           onwards (h .line) st st′ (sp .line) (sp .rest) (fs ++ []) (let-step (h .line) st (says .0) x fs v eo (sp .line) ex (sp .rest) un) d q out′ (hr .is (sp .rest) st′ (record {
             size = now .size;
-            has-number = subst (λ z. h .line + 1 ≡ lineNumber s z) (sym en) (number-next s (sp .line) (h .at) (sp .next) (sp .stands) (h .line) (now .has-number));
+            has-number = number-after ls st now sp next en;
             left = sp .fewer;
             phase = afterPhase (now .phase) (sp .line);
             reads = subst (λ z. readLines (sp .fewer) (h .line + 1) (afterPhase (now .phase) (sp .line)) s z ≡ formed (sp .rest)) (sym en) (sp .goes-on);
@@ -207,7 +211,7 @@ module _ {s : List ℕ} {e : Ellipsoid} {rs : List Float} {d : List ℕ} {h : St
           let (st′, es, b) = comes .goes-on kind count er in
           onwards (h .line) st st′ (sp .line) (sp .rest) [] es d q out′ (on .is (sp .rest) st′ (record {
             size = now .size;
-            has-number = subst (λ z. h .line + 1 ≡ lineNumber s z) (sym en) (number-next s (sp .line) (h .at) (sp .next) (sp .stands) (h .line) (now .has-number));
+            has-number = number-after ls st now sp next en;
             left = sp .fewer;
             phase = afterPhase (now .phase) (sp .line);
             reads = subst (λ z. readLines (sp .fewer) (h .line + 1) (afterPhase (now .phase) (sp .line)) s z ≡ formed (sp .rest)) (sym en) (sp .goes-on);
