@@ -1,5 +1,6 @@
 // Times the check and the run of whole sheets, the library's through its C functions beside the Rust interpreter's, on the same sheets in one run.
 //   bench_sheets             the tables
+//   bench_sheets sorts       the names of the sorts of sheets, a line each, from sort 0 on
 //   bench_sheets profile K   200 runs of the sheet of 96 lines of sort K, from 0, by the library alone, for a profiler
 //   bench_sheets once check|run K LINES   one call of the library on a sheet of so many lines of sort K, for a counter of instructions
 #[path = "../examples/rust/boresheet.rs"]
@@ -76,7 +77,7 @@ fn aparts(lines: usize) -> String {
     text
 }
 
-// A bore a line, the longest lines that 96 can be: 16,263 bytes of the 16,384 that a sheet may have.
+// A bore a line, nearly the longest lines that 96 can be: 16,263 bytes of the 16,384 that a sheet may have.
 fn bores(lines: usize) -> String {
     let line = |i: usize| {
         format!("(let tip{i:02} (tolla (at (enu (lla (deg 46.51{i:02}45) (deg 8.12{i:02}56) (m 812.{i:02}0000))) (add (aenu (deg 132.{i:02}00) (deg -78.250000) (m 42.{i:02}0000)) (venu (m 0) (m 0) (m -0.25))))))\n")
@@ -113,16 +114,11 @@ fn centre_at_last(lines: usize) -> String {
 
 // A site's sheet of 96 lines with lines changed: what it is refused for, and at which line.
 fn refused() -> Vec<(String, (u32, u32))> {
-    let with = |to: &[(usize, &str)]| changed(96, to);
-    let (bad, unknown, unkind) = (BAD, UNKNOWN, "(let x (deg c00))\n");
     vec![
-        (with(&[(2, bad)]), (3, 2)),
-        (with(&[(96, bad)]), (3, 96)),
-        (with(&[(1, "(ellipsoid 1 298)\n")]), (4, 1)),
-        (with(&[(2, unknown)]), (5, 2)),
-        (with(&[(96, unknown)]), (5, 96)),
-        (with(&[(96, unkind)]), (6, 96)),
-        (with(&[(2, unknown), (96, bad)]), (3, 96)),
+        (changed(96, &[(2, BAD)]), (3, 2)),
+        (changed(96, &[(1, "(ellipsoid 1 298)\n")]), (4, 1)),
+        (changed(96, &[(2, UNKNOWN)]), (5, 2)),
+        (changed(96, &[(96, "(let x (deg c00))\n")]), (6, 96)),
     ]
 }
 
@@ -191,7 +187,7 @@ const SORTS: [Sort; 11] = [
     ("collars and aparts", aparts, [0, 0]),
     ("a bore a line", bores, [0, 0]),
     ("a site's sheet, its last line bad", bad_at_last, [3, 3]),
-    ("the same, and a name unknown on line 2", bad_behind_a_name, [3, 3]),
+    ("a site's sheet, its last line bad and a name unknown on line 2", bad_behind_a_name, [3, 3]),
     ("a site's sheet, a name unknown on its last line", unknown_at_last, [5, 5]),
     ("a site's sheet, the centre on its last line", centre_at_last, [0, 8]),
 ];
@@ -210,10 +206,12 @@ fn checked((name, make, [check, run]): Sort, lines: usize) -> String {
 }
 
 fn profile(sort: Sort) {
-    let (text, mut out) = (checked(sort, 96), vec![0; 24576]);
-    println!("{}", sort.0);
+    let ((name, make, [_, run]), mut out) = (sort, vec![0; 24576]);
+    let text = make(96);
+    println!("{name}");
     for _ in 0..200 {
-        library::run(black_box(text.as_bytes()), &READINGS, &mut out);
+        let (number, line, _) = library::run(black_box(text.as_bytes()), &READINGS, &mut out);
+        assert_eq!((number, line), expected(run, 96), "{name}");
     }
 }
 
@@ -230,47 +228,59 @@ fn once(what: &str, sort: Sort, lines: usize) {
     assert_eq!(answer, expected(number, lines), "{}", sort.0);
 }
 
-fn main() {
-    let args: Vec<String> = std::env::args().skip(1).collect();
-    let number = |k: &String| k.parse::<usize>().expect("a number");
-    match &args[..] {
-        [] => (),
-        [word, k] if word == "profile" => return profile(SORTS[number(k)]),
-        [word, what, k, lines] if word == "once" => return once(what, SORTS[number(k)], number(lines)),
-        _ => panic!("bench_sheets [profile K | once check|run K LINES]"),
+// The least of each time so far.
+fn keep(least: &mut Times, times: Times) {
+    for (x, t) in least.iter_mut().zip(times) {
+        *x = x.min(t);
     }
+}
+
+fn sorts_timed() {
     let mut best = [[[f64::INFINITY; 4]; LENGTHS.len()]; SORTS.len()];
     for _ in 0..PASSES {
         for (sort, row) in SORTS.into_iter().zip(&mut best) {
             for (lines, least) in LENGTHS.into_iter().zip(row) {
-                let text = checked(sort, lines);
-                for (x, t) in least.iter_mut().zip(times(sort.0, text.as_bytes())) {
-                    *x = x.min(t);
-                }
+                keep(least, times(sort.0, checked(sort, lines).as_bytes()));
             }
         }
     }
-    let refused = refused();
-    let mut best_refused = vec![[f64::INFINITY; 4]; refused.len()];
-    for _ in 0..PASSES {
-        for ((text, answer), least) in refused.iter().zip(&mut best_refused) {
-            assert_eq!(sheet::check(text.as_bytes(), &mut [0; 96]), *answer, "a sheet to be refused");
-            for (x, t) in least.iter_mut().zip(times("a refused sheet", text.as_bytes())) {
-                *x = x.min(t);
-            }
-        }
-    }
-    println!("microseconds a call, the best of {PASSES} passes of {ROUNDS} rounds of {CALLS} calls");
     for (sort, row) in SORTS.into_iter().zip(&best) {
         table(sort, row);
     }
+}
+
+fn refused_timed() {
+    let refused = refused();
+    let mut best = vec![[f64::INFINITY; 4]; refused.len()];
+    for _ in 0..PASSES {
+        for ((text, answer), least) in refused.iter().zip(&mut best) {
+            assert_eq!(sheet::check(text.as_bytes(), &mut [0; 96]), *answer, "a sheet to be refused");
+            keep(least, times("a refused sheet", text.as_bytes()));
+        }
+    }
     println!("a site's sheet of 96 lines, refused");
     println!("  number line   check: Rust   Rattle  ratio     run: Rust   Rattle  ratio");
-    for ((_, (number, line)), t) in refused.iter().zip(&best_refused) {
+    for ((_, (number, line)), t) in refused.iter().zip(&best) {
         print!("  {number:>6} {line:>4}");
         for [a, b] in [[t[0], t[1]], [t[2], t[3]]] {
             print!(" {:>13.3} {:>8.3} {:>6.2}", a / 1000.0, b / 1000.0, b / a);
         }
         println!();
+    }
+}
+
+fn main() {
+    let args: Vec<String> = std::env::args().skip(1).collect();
+    let number = |k: &String| k.parse::<usize>().expect("a number");
+    match &args[..] {
+        [] => {
+            println!("microseconds a call, the best of {PASSES} passes of {ROUNDS} rounds of {CALLS} calls");
+            sorts_timed();
+            refused_timed();
+        }
+        [word] if word == "sorts" => SORTS.iter().for_each(|sort| println!("{}", sort.0)),
+        [word, k] if word == "profile" => profile(SORTS[number(k)]),
+        [word, what, k, lines] if word == "once" => once(what, SORTS[number(k)], number(lines)),
+        _ => panic!("bench_sheets [sorts | profile K | once check|run K LINES]"),
     }
 }

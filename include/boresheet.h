@@ -1,7 +1,8 @@
 /* Bore sheets: the check of a sheet, and its run over sixteen readings.
  *
  * Both functions answer the number of the refusal, 0 for none, and set *line on every return: the line refused,
- * which is one more than the LFs before it; 0 where no line is named (none refused, BORESHEET_SIZE, BORESHEET_LENT).
+ * counted from 1, so that it is one more than the LFs before it; 0 where no line is named (none refused,
+ * BORESHEET_SIZE, BORESHEET_LENT).
  * They keep nothing between calls, allocate nothing, and write nothing but what is said here.
  * They call memcpy and memset and no other function: no mathematical library is linked.
  *

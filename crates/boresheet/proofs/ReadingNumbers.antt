@@ -7,10 +7,10 @@ use mathlib.Core.List.{List, [], _∷_, _++_, append-assoc}
 use lib.ListN.{length}
 use lib.Ieee.{Float}
 use Rattle.sheets.specs.Text.{_⌢_, lf}
-use Rattle.sheets.specs.LineNumbers.{countLF, lineNumber, WholeLines, HasLine}
+use Rattle.sheets.specs.LineNumbers.{countLF, lineNumber}
 use Rattle.sheets.specs.declared.reader.num.DoubleRead.{DoubleRead}
 use Rattle.sheets.specs.declared.reader.num.DoubleRead.the-variants.{Is}
-use Rattle.sheets.proofs.reader.LineNumbers.{count-append, NoLF, each-none, num-none, begins, one-further}
+use Rattle.sheets.proofs.reader.LineNumbers.{count-append, NoLF, each-none, num-none, WholeLines, HasLine, begins, one-further}
 use Rattle.boresheet.specs.declared.readings.Found.{Found}
 use Rattle.boresheet.specs.declared.readings.Readings.{Readings}
 use Rattle.boresheet.specs.Format.{hexNumber, HexDigit, Line, Lines, noReadings, ComesTo, all, short, bad, long}

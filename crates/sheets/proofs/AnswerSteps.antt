@@ -13,8 +13,7 @@ use Rattle.frames.specs.declared.Ellipsoid.{Ellipsoid}
 use Rattle.sheets.specs.declared.check.admit.Admission.{Admission}
 use Rattle.sheets.specs.declared.check.admit.Outcome.{Outcome}
 use Rattle.sheets.specs.Trees.{Sheet}
-use Rattle.sheets.specs.LineNumbers.{lineNumber}
-use Rattle.sheets.specs.code.reader.Reader.{got, Form, formed, badLine, readLines, readSheet}
+use Rattle.sheets.specs.code.reader.Reader.{Form, formed, badLine, readLines, readSheet}
 use Rattle.sheets.specs.Refusals.{size, lent, refusalNumber}
 use Rattle.sheets.specs.code.check.Walking.{Admits}
 use Rattle.sheets.specs.Machine.{start, surface, machine}
@@ -31,7 +30,6 @@ use Rattle.sheets.proofs.ApartsHold.{stand-apart}
 use Rattle.sheets.proofs.Bools.{not-once}
 use Rattle.sheets.proofs.ConfinedHolds.{list-confined, output-confined}
 use Rattle.sheets.proofs.reader.SheetLaws.{reader-reads}
-use Rattle.sheets.proofs.reader.LineNumbers.{number-two}
 use Rattle.sheets.specs.Claim.{All}
 use Rattle.numbers.proofs.FitLaws.{Fits}
 use Rattle.sheets.specs.Both.{Both}
@@ -59,12 +57,6 @@ pub few-lines : (s : List ℕ) (v : Verdict) (a : Admission) → Admits s v a �
 unfolding Admits
 few-lines s (admitted c cs) a (m, eh, el, p) n d at e = let o = p .0 in let l = p .1 in let i : n ≡ length cs = cc in omega arith
 few-lines s (refused r i) a o n d at e = let z : _≡_ {A = ℕ} 0 1 = cc in absurd (omega arith)
-
--- the run over the lines begins where line 1 ends
-pub second-line : (s : List ℕ) (v : Verdict) (a : Admission) → Admits s v a → (n : ℕ) (d : Ellipsoid) (at : ℕ) → a .outcome ≡ Outcome.Passes n d at → 2 ≡ lineNumber s at
-unfolding Admits
-second-line s (admitted c cs) a (m, eh, el, p) n d at e = let o = p .0 in let i : m ≡ at = cc in number-two s (c .head) at (eh ∙ ap (got (c .head)) i)
-second-line s (refused r i) a o n d at e = let z : _≡_ {A = ℕ} 0 1 = cc in absurd (omega arith)
 
 module _ (s : List ℕ) (b : Bool) (eb : b ≡ sized s) where
   too-large : not b ≡ true → (l : Bool) → judged l s ≡ refused size 0

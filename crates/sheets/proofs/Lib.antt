@@ -16,6 +16,7 @@ pub mod TotalsHold
 pub mod ApartsHold
 pub mod AnsweredLines
 pub mod OwedOnce
+pub mod RunNumbers
 pub mod Starred
 pub mod Pinned
 pub mod TriedTotals

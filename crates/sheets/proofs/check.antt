@@ -8,3 +8,4 @@ pub mod PassedLaws
 pub mod KindSteps
 pub mod LineKindSteps
 pub mod AdmitSteps
+pub mod SecondLine

@@ -23,4 +23,3 @@ pub mod Stages
 pub mod WholeParts
 pub mod WholeSteps
 pub mod RunSteps
-pub mod RunNumbers

@@ -25,7 +25,7 @@ use Rattle.sheets.specs.declared.reader.form.FormRead.{FormRead}
 use Rattle.sheets.specs.declared.check.first_line.FirstLine.{FirstLine}
 use Rattle.sheets.specs.LineNumbers.{lineNumber}
 use Rattle.sheets.proofs.reader.Spans.{holds-at}
-use Rattle.sheets.proofs.reader.LineNumbers.{number-next, number-two}
+use Rattle.sheets.proofs.reader.LineNumbers.{number-next}
 use Rattle.sheets.proofs.reader.LineLaws.{LineStands, line-sound}
 use Rattle.sheets.proofs.reader.Walks.{lines-end, lines-over, lines-step, Step, walk-line}
 use Rattle.sheets.specs.code.check.Walking.{kindFrom, Stands, lineWord, lineSaid, LineHas, Walks, LinesWalk, unlessBad, Admits}
@@ -52,7 +52,7 @@ laid-after codes n h s k e =
     ap (λ j. take j (set codes n k)) en ∙ take-suc-set codes n k h ∙ ap (λ z. z ++ (k ∷ [])) e
 
 -- what the walk meets comes behind the form
-fault-over : (f : Fault) → 3 < refusalNumber (fault f)
+pub fault-over : (f : Fault) → 3 < refusalNumber (fault f)
 fault-over name = omega arith
 fault-over kind = omega arith
 
@@ -68,7 +68,7 @@ unfolding _thenᶠ_
 twice (formed ls) g h = refl
 twice (badLine j) g h = refl
 
--- ---- the walk, where so many lines after line 1 are passed and the next one stands at a place: it has its number, and those before it were read, and make the state
+-- ---- the walk, where so many lines after line 1 are passed and the next one stands at a place: its number is one more than the LFs before it, and those before it were read, and make the state
 
 pub record Midway (s : List ℕ) (start at passed : ℕ) (words codes newest : List ℕ) : Type 0 where
   pub has-number : passed + 2 ≡ lineNumber s at
@@ -226,31 +226,7 @@ module _ (o : Form (List Line)) (from : ℕ) (f : FormRead) (ef : f ≡ linesFor
   unfolding unlessBad
   unless-fine h er = er ∙ ap (λ f. unlessBad f number line) (sym h ∙ ef)
 
--- ---- the whole sheet: q is what line 1 came to, which tells where line 2 stands
-
-module _ (s : List ℕ) (q : FirstLine) (eq : q ≡ firstOf (readHead s)) where
-  place-two : (o : Got Head) → readHead s ≡ o → (n : ℕ) → ((b : Bool) (e : Ellipsoid) (m : ℕ) → q ≡ firstIn b e m → m ≡ n) → (q ≡ FirstLine.Bad → ⊥) → q ≡ firstOf o → 2 ≡ lineNumber s n
-  unfolding firstOf
-  place-two noGot eo n at other e = absurd (other e)
-  place-two (got x m) eo n at other e = number-two s x n (eo ∙ ap (got x) (at (ranged x) (surface x) m e))
-
-  pub two-out-of-range : (n : ℕ) → q ≡ FirstLine.OutOfRange n → 2 ≡ lineNumber s n
-  unfolding firstIn
-  two-out-of-range n h = place-two (readHead s) refl n at (λ e. let z : _≡_ {A = ℕ} 0 1 = cc in omega arith) eq
-    where
-      at : (b : Bool) (e : Ellipsoid) (m : ℕ) → q ≡ firstIn b e m → m ≡ n
-      at true e m i = let z : _≡_ {A = ℕ} 0 1 = cc in absurd (omega arith)
-      at false e m i = cc
-
-  pub two-in-range : (d : Ellipsoid) (n : ℕ) → q ≡ FirstLine.Is d n → 2 ≡ lineNumber s n
-  unfolding firstIn
-  two-in-range d n h = place-two (readHead s) refl n at (λ e. let z : _≡_ {A = ℕ} 0 1 = cc in omega arith) eq
-    where
-      at : (b : Bool) (e : Ellipsoid) (m : ℕ) → q ≡ firstIn b e m → m ≡ n
-      at true e m i = cc
-      at false e m i = let z : _≡_ {A = ℕ} 0 1 = cc in absurd (omega arith)
-
--- ---- what is answered of it
+-- ---- the whole sheet: q is what line 1 came to
 
 module _ (s : List ℕ) (q : FirstLine) (eq : q ≡ firstOf (readHead s)) (a : Admission) where
   -- the sheet by its line 1 and its lines

@@ -11,8 +11,7 @@ use Rattle.sheets.specs.code.reader.Reader.{Form, formed, badLine, readS
 use Rattle.sheets.specs.code.reader.Views.{formOf}
 use Rattle.sheets.specs.declared.reader.form.FormRead.{FormRead}
 use Rattle.sheets.proofs.reader.SheetLaws.{sheet-reads, sheet-breaks}
-use Rattle.sheets.specs.LineNumbers.{HasLine}
-use Rattle.sheets.proofs.reader.LineNumbers.{bad-number}
+use Rattle.sheets.proofs.reader.LineNumbers.{HasLine, bad-number}
 
 -- r is what `form` answered
 module _ (s : List ℕ) (r : FormRead) (e : r ≡ formOf (readSheet s)) where

@@ -28,7 +28,7 @@ form-whole s x n e = go (readLines 95 2 0 s n) ∙ sym (ap (λ o. formOf (sheetS
     go (formed ls) = ap (λ k. FormRead.Fine k) (omega arith)
     go (badLine j) = refl
 
--- the line at a place that `form_from` reached from line `first` at `start`: it has its number, and whatever the phase at `start`, the lines from it on, in some phase, make the answer
+-- the line at a place that `form_from` reached from line `first` at `start`: its number is one more than the LFs before it, and whatever the phase at `start`, the lines from it on, in some phase, make the answer
 pub record Reached (s : List ℕ) (start first at number : ℕ) : Type 0 where
   pub has-number : number ≡ lineNumber s at
   pub rest : (p : ℕ) → (q : ℕ) × (linesForm number (readLines (97 - number) number q s at) ≡ linesForm first (readLines (97 - first) first p s start))

@@ -1,19 +1,18 @@
 -- A line holds exactly one LF, its last byte, so that a line's number is one more than the LFs before it: of the lines of a sheet, of the first bad line, and from each line to the next. Assumes nothing.
-use Prim.Native.Nat.{ℕ, zero, suc, _+_, _-_, _<_, _≤_}
+use Prim.Native.Nat.{ℕ, zero, suc, _+_, _<_, _≤_}
 use Prim.Native.String.{String}
 use native.Mathlib.Omega.{arith}
 use mathlib.Core.Path.{_≡_, refl, sym, ap, subst, _∙_}
-use mathlib.Core.Bool.{Bool, true, false, cond}
+use mathlib.Core.Bool.{Bool, true, false}
 use mathlib.Core.Logic.{_⊎_, inl, inr}
 use mathlib.Core.List.{List, [], _∷_, _++_, append-assoc, append-nil}
-use lib.Dec.{eqb}
 use lib.ListN.{length, take, drop, length-append, take-append-drop}
 use lib.Seq.{take-append-seam, length-take-le}
 use borrow.Author.Tests.{ne-eqb}
 use Rattle.sheets.specs.Text.{Word, ascii, _⌢_, lf}
 use Rattle.sheets.specs.Trees.{Num, Expr, Exprs, word-expr, num-expr, form-expr, nil, _▸_, Line, Head, Sheet}
 use Rattle.sheets.specs.Grammar.{Letter, Digit, Each, IsWord, IsNum, sign, point, printNum, print, printArgs, IsExpr, AreArgs, ended, IsEnded, headBracket, printHead, lineBracket, printLine, IsLine, printLines, AreLines, after, printSheet, IsSheet, Written, FirstBad, at-head, at-line, at-97}
-use Rattle.sheets.specs.LineNumbers.{countLF, lineNumber, WholeLines, HasLine}
+use Rattle.sheets.specs.LineNumbers.{countLF, lineNumber}
 use Rattle.sheets.specs.code.reader.Reader.{got, readLine, readHead}
 use Rattle.sheets.proofs.reader.Spans.{Spans, spans-drop, holds-at}
 use Rattle.sheets.proofs.reader.CodeLaws.{word-chars}
@@ -101,6 +100,14 @@ sheet-lf c h = count-append (printHead (c .head)) (printLines (c .lines)) ∙ om
 
 -- ---- what begins behind whole lines has one more for its number than they hold LFs
 
+-- the bytes are whole lines: there are none, or the last is LF
+abbrev pub WholeLines : List ℕ → Type 0
+WholeLines t = (t ≡ []) ⊎ ((u : List ℕ) × (t ≡ u ⌢ lf))
+
+-- the bytes s have a line j, whatever it says: a byte stands at a place, whole lines before it, and j is one more than their LFs
+abbrev pub HasLine : List ℕ → ℕ → Type 0
+HasLine s j = (at : ℕ) × (at < length s) × WholeLines (take at s) × (j ≡ lineNumber s at)
+
 pub begins : (s t : List ℕ) (b : ℕ) (r : List ℕ) → s ≡ t ++ (b ∷ r) → WholeLines t → HasLine s (countLF t + 1)
 begins s t b r e w =
     let n : length s ≡ length t + suc (length r) = ap length e ∙ length-append t (b ∷ r) in
@@ -137,16 +144,6 @@ lines-split zero ls = refl
 lines-split (suc k) [] = refl
 lines-split (suc k) (l ∷ ls) = ap (λ t. printLine l ++ t) (lines-split k ls) ∙ sym (append-assoc (printLine l) (printLines (take k ls)) (printLines (drop k ls)))
 
--- a line is not empty
-some-byte : (s r : List ℕ) → OneLF s → (b : ℕ) × (t : List ℕ) × (s ++ r ≡ b ∷ t)
-some-byte s r ([], e, z) = (10, r, ap (λ x. x ++ r) e)
-some-byte s r (b ∷ t, e, z) = (b, (t ⌢ lf) ++ r, ap (λ x. x ++ r) e)
-
-some-line : (k p : ℕ) (ls : List Line) → AreLines p ls → k < length ls → (b : ℕ) × (t : List ℕ) × (printLines (drop k ls) ≡ b ∷ t)
-some-line k p [] h n = absurd (omega arith)
-some-line zero p (l ∷ ls) h n = some-byte (printLine l) (printLines ls) (line-lf l (h .0))
-some-line (suc k) p (l ∷ ls) h n = some-line k (after p l) ls (h .2) (omega arith)
-
 module _ (s : List ℕ) (c : Sheet) (h : Written s c) where
   -- the first lines are a sheet
   module _ (k : ℕ) where
@@ -173,17 +170,6 @@ module _ (s : List ℕ) (c : Sheet) (h : Written s c) where
   -- and k LFs stand among them: a line's number is one more than the LFs before it
   pub line-number : (k : ℕ) → k ≤ length (c .lines) + 1 → lineNumber s (length (firstLines k c)) ≡ k + 1
   line-number k le = ap (λ t. countLF t + 1) (line-begins k) ∙ ap (λ n. n + 1) (first-lf k le)
-
-  line-there : (k : ℕ) → k ≤ length (c .lines) → HasLine s (k + 1)
-  unfolding firstLines countLF
-  line-there zero le = let (b, r, e) = some-byte (printHead (c .head)) (printLines (c .lines)) (ended-lf (headBracket (c .head)) (h .1 .0)) in begins s [] b r (h .0 ∙ e) (inl refl)
-  line-there (suc k) le =
-      let (b, r, e) = some-line k 0 (c .lines) (h .1 .1) (omega arith) in
-      subst (λ n. HasLine s (n + 1)) (first-lf (suc k) (omega arith)) (begins s (printSheet (firsts k)) b r (split k ∙ ap (λ x. printSheet (firsts k) ++ x) e) (sheet-ends (firsts k) (are-sheet k (omega arith))))
-
-  -- the bytes have each line that the sheet has
-  pub has-line : (j : ℕ) → 1 ≤ j → j ≤ length (c .lines) + 1 → HasLine s j
-  has-line j low high = subst (HasLine s) (omega (arith, low)) (line-there (j - 1) (omega (arith, low, high)))
 
 -- ---- the first bad line: the bytes before it are whole lines, and hold one LF less
 first-there : (s : List ℕ) → 0 < length s → HasLine s 1

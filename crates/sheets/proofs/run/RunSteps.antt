@@ -1,5 +1,5 @@
 -- The run over the lines, a step at a time: a law for each way out of `run_lines` and each way round its loop. Assumes nothing.
-use Prim.Native.Nat.{ℕ, _+_, _-_, _*_, _<_, _≤_}
+use Prim.Native.Nat.{ℕ, _+_, _*_, _<_, _≤_}
 use native.Mathlib.Omega.{arith}
 use mathlib.Core.Path.{_≡_, refl, sym, ap, subst, _∙_}
 use mathlib.Core.Bool.{Bool, true, false}
@@ -53,6 +53,10 @@ use Rattle.sheets.proofs.run.WholeSteps.{Comes, whole-comes}
 pub record RunsFrom (s : List ℕ) (e : Ellipsoid) (rs : List Float) (d : List ℕ) (h : Stage) (r : RunAnswer) (out′ : List ℕ) : Type 0 where
   is : (ls : List Line) (st : State) → Now s e rs d h ls st → Unstuck (steps (numbered (h .line) ls) st) → Tells (steps (numbered (h .line) ls) st) d r out′
 
+-- whatever answers from there on answers the whole, from line 2, which stands at `start`: what the loop of `run_lines` holds
+abbrev pub Decides : List ℕ → ℕ → Ellipsoid → List Float → List ℕ → Stage → Type 0
+Decides s start e rs d h = (r : RunAnswer) (out′ : List ℕ) → RunsFrom s e rs d h r out′ → Runs s start e rs d r out′
+
 -- the code's 0.0
 zeros : replicate 2940 (ofBits binary64 0) ≡ replicate 2940 (num 0)
 unfolding ofBits decimal
@@ -93,7 +97,7 @@ runs-start s at two e rs d x f hf r out′ h = record {
 }
 
 module _ {s : List ℕ} {e : Ellipsoid} {rs : List Float} {d : List ℕ} {h : Stage} where
-  -- of no line but one that has its number
+  -- where the number is another than that of the line, no state is stood for, and any answer does
   pub runs-numbered : ((h .line ≡ lineNumber s (h .at)) → ⊥) → (r : RunAnswer) (out′ : List ℕ) → RunsFrom s e rs d h r out′
   runs-numbered not r out′ = record { is = λ ls st now un. absurd (not (now .has-number)) }
 

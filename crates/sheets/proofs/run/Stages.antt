@@ -32,7 +32,7 @@ pub record Stage : Type 0 where
   pub written : ℕ
   pub out : List ℕ
 
--- the line has its number, the lines ls are left, and what is held stands for the machine's state; d is what was lent for the text, and the names' lets stand on the lines `lets`
+-- the line's number is one more than the LFs before it, the lines ls are left, and what is held stands for the machine's state; d is what was lent for the text, and the names' lets stand on the lines `lets`
 pub record Now (s : List ℕ) (e : Ellipsoid) (rs : List Float) (d : List ℕ) (h : Stage) (ls : List Line) (st : State) : Type 0 where
   pub size : length d ≡ 24576
   pub has-number : h .line ≡ lineNumber s (h .at)

@@ -1,5 +1,6 @@
 -- `sheets::run::run` meets its contract. Assumes nothing.
-use Rattle.sheets.proofs.AnswerSteps.{second-line, run-size, run-readings, run-out, run-refused, run-lines}
+use Rattle.sheets.proofs.check.SecondLine.{passes-behind}
+use Rattle.sheets.proofs.AnswerSteps.{run-size, run-readings, run-out, run-refused, run-lines}
 use borrow.Author.Needs.{needs}
 use Rattle.sheets.proofs.run.run.Statement.{statement}
 use Rattle.sheets.proofs.run.run.Tie as tie
@@ -38,7 +39,7 @@ enum-known-outcome-2 : tie.Need-enum-known-outcome-2
 enum-known-outcome-2 c = search needs
 
 run-lines-requires : tie.Need-run-lines-requires
-run-lines-requires c κs = second-line _ _ _ (c .before .before .before .before .admit .ensures) _ _ _ (c .before .before .outcome2 .given .1)
+run-lines-requires c κs = passes-behind _ _ _ (c .before .before .before .before .admit .ensures) _ _ _ (c .before .before .outcome2 .given .1)
 
 returns-4 : tie.Need-returns-4
 returns-4 c = run-refused _ _ (c .before .before .before .before .before .before .before .before .is-sized .ensures) _ _ (c .before .before .before .before .before .before .before .if1 .left) (c .before .before .before .before .before .before .if2 .left) (c .before .before .before .before .before .if3 .left) _ (c .before .before .before .before .admit .ensures) _ _ (c .before .before .outcome .given .1) _ (c .run-answer4 .ensures)

@@ -1,6 +1,7 @@
 -- `sheets::check::admit::admit` meets its contract. Assumes nothing.
-use native.Mathlib.Omega.{arith}
-use Rattle.sheets.proofs.check.AdmitSteps.{two-out-of-range, two-in-range, admit-no-head, admit-out-of-range, admit-in-range}
+use mathlib.Core.Path.{refl}
+use Rattle.sheets.proofs.check.SecondLine.{behind-first}
+use Rattle.sheets.proofs.check.AdmitSteps.{admit-no-head, admit-out-of-range, admit-in-range}
 use borrow.Author.Needs.{needs}
 use Rattle.sheets.proofs.check.admit.admit.Statement.{statement}
 use Rattle.sheets.proofs.check.admit.admit.Tie as tie
@@ -18,13 +19,13 @@ enum-known-h : tie.Need-enum-known-h
 enum-known-h c = search needs
 
 unless-bad-requires : tie.Need-unless-bad-requires
-unless-bad-requires c κs = two-out-of-range _ _ (c .before .before .before .first-line .ensures) _ (c .before .h .given .1)
+unless-bad-requires c κs = behind-first _ _ (c .before .before .before .first-line .ensures) _ (c .before .h .given .1) _ refl
 
 enum-known-h-2 : tie.Need-enum-known-h-2
 enum-known-h-2 c = search needs
 
 walk-lines-requires : tie.Need-walk-lines-requires
-walk-lines-requires c κs = two-in-range _ _ (c .before .before .before .first-line .ensures) _ _ (c .before .h2 .given .1)
+walk-lines-requires c κs = behind-first _ _ (c .before .before .before .first-line .ensures) _ (c .before .h2 .given .1) _ refl
 
 returns : tie.Need-returns
 returns c = admit-no-head _ _ (c .before .before .before .first-line .ensures) _ (c .before .enum-told .given .1) (c .refused .ensures)

@@ -1,14 +1,11 @@
 -- `sheets::run::lines_run::run_lines` meets its contract. Assumes nothing.
-use Prim.Native.Nat.{ℕ, _+_, _-_, _≤_}
+use Prim.Native.Nat.{_+_, _-_, _≤_}
 use native.Mathlib.Omega.{arith}
 use mathlib.Core.Path.{_≡_, refl, _∙_}
 use mathlib.Core.Logic.{inl, inr}
-use mathlib.Core.List.{List}
 use lib.ListN.{length, length-set, length-replicate}
-use Rattle.sheets.specs.declared.answers.RunAnswer.{RunAnswer}
-use Rattle.sheets.specs.code.run.Running.{Runs}
 use Rattle.sheets.proofs.reader.LineSteps.{head-says}
-use Rattle.sheets.proofs.run.RunSteps.{RunsFrom, runs-start, runs-end, runs-over, runs-bad, runs-let-not, runs-let, runs-whole-not, runs-whole}
+use Rattle.sheets.proofs.run.RunSteps.{Decides, runs-start, runs-end, runs-over, runs-bad, runs-let-not, runs-let, runs-whole-not, runs-whole}
 use borrow.Author.Needs.{needs}
 use borrow.Author.Tests.{ltb-true, ltb-false}
 use Rattle.sheets.proofs.run.lines_run.run_lines.Statement.{statement}
@@ -16,7 +13,7 @@ use Rattle.sheets.proofs.run.lines_run.run_lines.Tie as tie
 
 abbrev Inv-loop : tie.InvT-loop
 Inv-loop s from e readings out₀ t₀ words₀ kinds₀ newest₀ shown₀ sum₀ floats₀ at₀ line₀ n₀ written₀ out t words kinds newest shown sum floats at line n written = (length t ≡ 96) × (n + 1 ≤ line) × (line ≤ 96) × (length out ≡ length out₀)
-    × ((q : RunAnswer) (o : List ℕ) → RunsFrom s e readings out₀ (record { at = at; line = line + 1; slots = t; words = words; kinds = kinds; newest = newest; shown = shown; sum = sum; floats = floats; n = n; written = written; out = out }) q o → Runs s from e readings out₀ q o)
+    × Decides s from e readings out₀ (record { at = at; line = line + 1; slots = t; words = words; kinds = kinds; newest = newest; shown = shown; sum = sum; floats = floats; n = n; written = written; out = out })
 
 abbrev μ-loop : tie.MeasureT-loop
 μ-loop s from e readings out₀ t₀ words₀ kinds₀ newest₀ shown₀ sum₀ floats₀ at₀ line₀ n₀ written₀ out t words kinds newest shown sum floats at line n written = 96 - line
