@@ -1,6 +1,8 @@
 // Checks and runs the bore sheet on standard input, and writes its text on standard output. A refusal is one line on standard error.
 // An argument names a file of the sixteen readings; without it they are all 0.
 // A Rattle program has no exit status: the line on standard error is what tells a refusal.
+#![tactic(auto)]
+
 mod files;
 mod hex;
 mod messages;

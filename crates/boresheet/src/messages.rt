@@ -5,7 +5,7 @@ ghost use Rattle.sheets.specs.code.run.Writing.{Written};
 ghost use Rattle.boresheet.specs.Messages.{decimal, refusal_name, place_text, refusal_line, bad_line_text, short_text};
 
 // A text: the first bytes of an array, and how many they are.
-#[derive(Drop)]
+#[derive(Clone, Copy)]
 pub struct Text {
     pub bytes: [u8; 96],
     pub size: usize,

@@ -8,7 +8,7 @@ use sheets::reader::bytes::byte;
 use sheets::reader::num::{DoubleRead, double};
 
 // What a file comes to: its readings; the first line that is none; how many lines there are where they are too few; or that something stands behind line 16.
-#[derive(Drop)]
+#[derive(Clone, Copy)]
 pub enum Found {
     All,
     Bad(usize),
@@ -17,7 +17,7 @@ pub enum Found {
 }
 
 // The values are zeros where a file is not of the form.
-#[derive(Drop)]
+#[derive(Clone, Copy)]
 pub struct Readings {
     pub found: Found,
     pub values: [f64; 16],

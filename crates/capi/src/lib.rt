@@ -1,4 +1,6 @@
 // The C functions of include/boresheet.h: the check and the run of `sheets`, a slice as a pointer and a length, the refusal's number as the answer. `line` and `written` are set on every return.
+#![tactic(auto)]
+
 ghost use Rattle.sheets.specs.declared.answers.CheckAnswer.{CheckAnswer};
 ghost use Rattle.sheets.specs.declared.answers.RunAnswer.{RunAnswer};
 ghost use Rattle.sheets.specs.Answers.{CheckOwes, RunOwes};

@@ -11,7 +11,7 @@ use lib.Ieee.Scale.{finite}
 use Rattle.numbers.specs.Ops.{decimal, num, pick}
 use Rattle.numbers.specs.Floats.{pi}
 use Rattle.numbers.specs.Arctangent.{atan2}
-use Rattle.numbers.specs.Angles.{angle, full_circle, normalised}
+use Rattle.numbers.specs.Angles.{full_circle, normalised}
 use Rattle.numbers.specs.declared.Angle.{Angle}
 use Rattle.numbers.proofs.FitLaws.{Fits, pick-fits, atan2-fits}
 use Rattle.numbers.proofs.ArcBounds.{atan2-finite}

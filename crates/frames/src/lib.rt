@@ -1,4 +1,6 @@
 // Frames of the bore-sheet box: positions and their conversion on an ellipsoid, local vectors, local frames.
+#![tactic(auto)]
+
 pub mod ellipsoids;
 pub mod frame;
 pub mod orientations;
@@ -9,7 +11,7 @@ pub mod vector;
 use numbers::{Angle, Length, Mat33, Vec3};
 
 // Earth-centred, Earth-fixed.
-#[derive(Drop)]
+#[derive(Clone, Copy)]
 pub struct GeocentricPosition {
     pub x: Length,
     pub y: Length,
@@ -17,25 +19,25 @@ pub struct GeocentricPosition {
 }
 
 // The horizontal position, and the height above the surface.
-#[derive(Drop)]
+#[derive(Clone, Copy)]
 pub struct GeodeticPosition {
     pub hp: NVector,
     pub height: Length,
 }
 
 // A horizontal position as a latitude and a longitude.
-#[derive(Drop)]
+#[derive(Clone, Copy)]
 pub struct LatLong {
     pub latitude: Angle,
     pub longitude: Angle,
 }
 
 // The unit normal to the surface: z to the North Pole, x to latitude and longitude 0.
-#[derive(Drop)]
+#[derive(Clone, Copy)]
 pub struct NVector(pub Vec3);
 
 // An ellipsoid of revolution.
-#[derive(Drop)]
+#[derive(Clone, Copy)]
 pub struct Ellipsoid {
     pub equatorial_radius: Length,
     pub polar_radius: Length,
@@ -44,7 +46,7 @@ pub struct Ellipsoid {
 }
 
 // East-north-up, north-east-down, a vehicle's body, wander azimuth.
-#[derive(Drop)]
+#[derive(Clone, Copy)]
 pub enum Orientation {
     Enu,
     Ned,
@@ -53,7 +55,7 @@ pub enum Orientation {
 }
 
 // A vector in a local frame, with its orientation where the Rust has a type parameter.
-#[derive(Drop)]
+#[derive(Clone, Copy)]
 pub struct LocalVector {
     pub x: Length,
     pub y: Length,
@@ -63,7 +65,7 @@ pub struct LocalVector {
 
 // A local Cartesian frame: its origin, and the matrices from its axes to the Earth's and back.
 // The orientation stands where the Rust has a type parameter.
-#[derive(Drop)]
+#[derive(Clone, Copy)]
 pub struct LocalFrame {
     pub origin: Vec3,
     pub dir_rm: Mat33,
@@ -72,7 +74,7 @@ pub struct LocalFrame {
 }
 
 // Angles about the x, the new y and the newest z axis.
-#[derive(Drop)]
+#[derive(Clone, Copy)]
 pub struct Xyz {
     pub x: Angle,
     pub y: Angle,
@@ -80,7 +82,7 @@ pub struct Xyz {
 }
 
 // Angles about the z, the new y and the newest x axis: yaw, pitch and roll from north-east-down to body.
-#[derive(Drop)]
+#[derive(Clone, Copy)]
 pub struct Zyx {
     pub z: Angle,
     pub y: Angle,

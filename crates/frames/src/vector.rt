@@ -11,7 +11,7 @@ use numbers::sine::{cos, sin};
 use numbers::{Angle, Length, Vec3};
 
 // North, east and up.
-#[derive(Drop)]
+#[derive(Clone, Copy)]
 struct Nez {
     pub north: Length,
     pub east: Length,

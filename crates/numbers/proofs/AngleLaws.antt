@@ -1,6 +1,5 @@
 -- What `normalised_radians` answers in each of its cases. An angle within the maximum on either side of zero is its own remainder, so that normalising it takes no division. Assumes nothing.
-use Rattle.std.proofs.Common.{◌≡◌, ℕ, ◌+◌, ◌*◌, ◌<◌, Bool, true, false, not, ◌&&◌, ◌||◌, T, eqb, ℤ, pos, sym, refl, ap, ◌∙◌, subst, true≢false, arith, eqb→eq, ltb-true, lt-ltb, ne_eqb}
-use mathlib.Core.Bool.{beq}
+use Rattle.std.proofs.Common.{◌≡◌, ℕ, ◌+◌, ◌*◌, ◌<◌, Bool, true, false, not, ◌&&◌, T, eqb, pos, sym, refl, ap, ◌∙◌, subst, true≢false, arith, eqb→eq, ltb-true, lt-ltb, ne_eqb}
 use lib.Ieee.{Float, nan, inf, fin, binary64, up, down, below, level, le, lt, eq, neg}
 use lib.Ieee.Fits.{and_l}
 use lib.Ieee.Positive.{first_pos}

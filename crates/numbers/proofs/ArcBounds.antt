@@ -30,6 +30,10 @@ over-one x y h l = go x y h l (above_of_le (num 1) y tt l)
         let x : m * up e * down d ≤ 1 * down e * down d = mul-le-mul_right (down d) h in
         let y : 1 * down d * down e ≤ n * up d * 1 * down e = mul-le-mul_right (down e) (le→cross (num 1) (fin false n d) tt a l) in
         bounded-quotient s m e false n d (ltb→lt 0 n a) (omega arith)
+    go lib.Ieee.nan _ h l a = elim h [ ]
+    go (inf _) _ h l a = elim h [ ]
+    go (fin s m e) lib.Ieee.nan h l a = elim a [ ]
+    go (fin s m e) (fin true n d) h l a = elim a [ ]
 
 -- ---- the polynomial
 
@@ -70,6 +74,8 @@ far-bounded (fin true m e) h k = absurd (true≢false (sym (lt-le (fin true m e)
 far-bounded (fin false m e) h k =
     over-one (fin false m e ⊖ num 1) (fin false m e ⊕ num 1) (bounded-gap m e 1 (pos 0) 1 h one (lit≤ tt))
     (unfold add in round_mono binary64 1 1 (m * up e * 1 + 1 * 1 * down e) (down e * 1) (zero-lt-suc 0) (mul-pos (down_pos e) (zero-lt-suc 0)) (omega arith))
+far-bounded lib.Ieee.nan h k = elim h [ ]
+far-bounded (inf _) h k = elim h [ ]
 
 eighth : Bounded (pi ⊘ num 4) 1
 unfolding decimal div
@@ -131,6 +137,10 @@ atan2-bounded (fin s m e) (fin t n d) p q =
     let b : Bounded v 26 = atan_base-bounded m e n d in
     let c : Bounded (turned_by t v) 30 = either t (pi ⊖ v) v 30 (λ _. bounded-sub pi v 4 26 half b (lit≤ tt)) (λ _. wider v 26 30 (lit≤ tt) b) in
     either s (neg (turned_by t v)) (turned_by t v) 30 (λ _. bounded-neg (turned_by t v) 30 c) (λ _. c)
+atan2-bounded lib.Ieee.nan _ p q = elim p [ ]
+atan2-bounded (inf _) _ p q = elim p [ ]
+atan2-bounded (fin s m e) lib.Ieee.nan p q = elim q [ ]
+atan2-bounded (fin s m e) (inf _) p q = elim q [ ]
 
 pub atan2-finite : (y x : Float) → T (finite y) → T (finite x) → T (finite (atan2 y x))
 atan2-finite y x p q = bounded-finite (atan2 y x) 30 (atan2-bounded y x p q)

@@ -16,9 +16,13 @@ use Rattle.numbers.proofs.WholeLaw.{at_most}
 
 pub bounded-finite : (x : Float) (B : ℕ) → Bounded x B → T (finite x)
 bounded-finite (fin s m e) B h = tt
+bounded-finite nan B h = elim h [ ]
+bounded-finite (inf _) B h = elim h [ ]
 
 pub wider : (x : Float) (B C : ℕ) → B ≤ C → Bounded x B → Bounded x C
 wider (fin s m e) B C h k = le_trans k (mul-le-mul_right (down e) h)
+wider nan B C h k = elim k [ ]
+wider (inf _) B C h k = elim k [ ]
 
 -- ---- by comparison
 
@@ -38,6 +42,10 @@ le-bounded (inf s) (fin t n d) B v h = true≢false (sym h)
 le-bounded (fin s m e) (fin true n d) B v h = absurd (true≢false v.0)
 le-bounded (fin s m e) (fin false n d) B v h =
     le_of_mul-le-mul_right {k = down d} (le_trans (le-fractions m e n d h) (le_of_eq (ap (λ (z : ℕ). z * down e) (sym (mul-one (n * up d)) ∙ v.1) ∙ mul_right_comm B (down d) (down e)))) (down_pos d)
+le-bounded (inf s) nan B v h = elim v [ ]
+le-bounded (inf s) (inf _) B v h = elim v [ ]
+le-bounded (fin s m e) nan B v h = elim v [ ]
+le-bounded (fin s m e) (inf _) B v h = elim v [ ]
 
 -- ---- by the operations
 
@@ -63,10 +71,16 @@ unfolding mul
 bounded-mul (fin s m e) (fin t n d) B C h k l =
     bounded-round (unlike s t) (m * up e * (n * up d)) (down e * down d) (B * C) (mul-pos (down_pos e) (down_pos d))
     (le_trans (mul-le-mul h k) (le_of_eq (mul-mul-mul_comm B (down e) C (down d)))) l
+bounded-mul nan y B C h k l = elim h [ ]
+bounded-mul (inf _) y B C h k l = elim h [ ]
+bounded-mul (fin s m e) nan B C h k l = elim k [ ]
+bounded-mul (fin s m e) (inf _) B C h k l = elim k [ ]
 
 pub bounded-neg : (x : Float) (B : ℕ) → Bounded x B → Bounded (neg x) B
 unfolding neg
 bounded-neg (fin s m e) B h = h
+bounded-neg nan B h = elim h [ ]
+bounded-neg (inf _) B h = elim h [ ]
 
 bounded-sum : (s : Bool) (a : ℕ) (t : Bool) (b c B : ℕ) → 0 < c → a ≤ B * c → b ≤ B * c → (T (beq s t) → a + b ≤ B * c) → B ≤ 2 ^ 53 → Bounded (sum binary64 s a t b c) B
 unfolding sum
@@ -83,6 +97,10 @@ bounded-add (fin s m e) (fin t n d) B C h k l =
     let x : m * up e * down d ≤ B * down e * down d = mul-le-mul_right (down d) h in
     let y : n * up d * down e ≤ C * down d * down e = mul-le-mul_right (down e) k in
     bounded-sum s (m * up e * down d) t (n * up d * down e) (down e * down d) (B + C) (mul-pos (down_pos e) (down_pos d)) (omega arith) (omega arith) (λ _. omega arith) l
+bounded-add nan y B C h k l = elim h [ ]
+bounded-add (inf _) y B C h k l = elim h [ ]
+bounded-add (fin s m e) nan B C h k l = elim k [ ]
+bounded-add (fin s m e) (inf _) B C h k l = elim k [ ]
 
 pub bounded-sub : (x y : Float) (B C : ℕ) → Bounded x B → Bounded y C → B + C ≤ 2 ^ 53 → Bounded (sub binary64 x y) (B + C)
 unfolding sub

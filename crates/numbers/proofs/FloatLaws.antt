@@ -220,6 +220,8 @@ pub sub-self-zero : (f : Format) (x : Float) → T (finite x) → sub f x x ≡ 
 sub-self-zero f (fin s m e) t =
     sub_is f (fin s m e) (fin s m e) ∙ ap (λ (y : Float). add f (fin s m e) y) (neg_is s m e) ∙ add_is f s m e (not s) m e
     ∙ sum-cancel f s (m * up e * down e) (down e * down e) (mul-pos (down_pos e) (down_pos e))
+sub-self-zero f nan t = elim t [ ]
+sub-self-zero f (inf _) t = elim t [ ]
 
 -- ---- zero times a finite value is a zero
 
@@ -230,6 +232,8 @@ zero-times f (fin s m e) t = (
       ∙ ap (λ (x : ℕ). round f (unlike false s) x (1 * down e)) (zero-mul (m * up e))
       ∙ round-zero f (unlike false s) (1 * down e) (mul-pos (zero-lt-suc 0) (down_pos e)),
 )
+zero-times f nan t = elim t [ ]
+zero-times f (inf _) t = elim t [ ]
 
 -- ---- the remainder of a value that is smaller than the divisor is itself
 
@@ -287,3 +291,5 @@ level-self s a = go s (eqb a a) (eqb_refl a)
 pub eq_self : (x : Float) → T (finite x) → eq x x ≡ true
 unfolding eq
 eq_self (fin s m e) t = level-self s (m * up e * down e)
+eq_self nan t = elim t [ ]
+eq_self (inf _) t = elim t [ ]

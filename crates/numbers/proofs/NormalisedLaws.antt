@@ -1,7 +1,7 @@
 -- An angle that is normalised to a maximum above zero is at least zero and below the maximum. Assumes nothing.
 -- `normalised-below`: for every finite angle. Of an infinite maximum it says the same: an angle below zero comes to 0, and any other stays.
 -- `normalised-never`: for every angle, a NaN and the infinities included, whose answer is a NaN: it never reaches the maximum.
-use Rattle.std.proofs.Common.{◌≡◌, ℕ, zero, suc, ◌+◌, ◌-◌, ◌*◌, ◌/◌, ◌%◌, ◌^◌, ◌<◌, ◌≤◌, Bool, true, false, cond, not, ◌&&◌, ◌||◌, T, ltb, ℤ, pos, sym, refl, ap, ◌∙◌, subst, inl, inr, true≢false, zero-le, le_trans, le_of_eq, lt_of_le_of_lt, mul-le-mul_right, mod-lt, zero-lt-suc, mul_assoc, mul-pos, div-add-mod', sub-le, arith, pow_pos, pow-add, ltb-false, ltb-true, le-ltb, lt-ltb}
+use Rattle.std.proofs.Common.{◌≡◌, ℕ, ◌+◌, ◌-◌, ◌*◌, ◌/◌, ◌%◌, ◌^◌, ◌<◌, ◌≤◌, Bool, true, false, cond, not, ◌&&◌, ◌||◌, T, ltb, ℤ, pos, sym, refl, ap, ◌∙◌, subst, inl, inr, true≢false, le_trans, le_of_eq, lt_of_le_of_lt, mul-le-mul_right, mod-lt, zero-lt-suc, mul_assoc, mul-pos, div-add-mod', sub-le, arith, pow_pos, pow-add, ltb-false, ltb-true, le-ltb, lt-ltb}
 use lib.Ieee.{Float, nan, inf, fin, binary64, up, down, round, rem, add, sum, lt, le, eq}
 use lib.Ieee.Exact.{HasValue, round_exact}
 use lib.Ieee.Fits.{down_pos}
@@ -17,7 +17,7 @@ use Rattle.numbers.proofs.FitLaws.{Fits}
 use Rattle.numbers.proofs.FloatLaws.{rem-inf}
 use Rattle.numbers.proofs.Isqrt.{below_or_not}
 use Rattle.numbers.proofs.Modulo.{mod-scale}
-use Rattle.numbers.proofs.RoundLaw.{Counted, counted, round-own}
+use Rattle.numbers.proofs.RoundLaw.{counted, round-own}
 use Rattle.numbers.proofs.RemLaws.{shares}
 use Rattle.numbers.proofs.ArcLaws.{zeros-le}
 use Rattle.numbers.proofs.Values.{smaller-parts, rem-at}
@@ -193,6 +193,8 @@ normalised-below (fin s m e) max f g t p = go (le (num 0) (fin s m e)) (lt (fin 
     go true true h k = record { from_zero = h; short_of = k }
     go true false h k = wrapped-below s m e max f g p
     go false c h k = wrapped-below s m e max f g p
+normalised-below nan max f g t p = elim t [ ]
+normalised-below (inf _) max f g t p = elim t [ ]
 
 -- ---- the maximum is never reached
 

@@ -1,5 +1,5 @@
 -- What `rem` answers in each of its cases. Assumes nothing.
-use Rattle.std.proofs.Common.{◌≡◌, ℕ, zero, suc, ◌+◌, ◌-◌, ◌*◌, ◌/◌, ◌%◌, ◌^◌, ◌<◌, ◌≤◌, Bool, true, false, cond, T, eqb, pos, sym, refl, ap, ◌∙◌, subst, ap₂, inl, inr, mod-lt, mul_assoc, lt_of_mul-lt-mul_right, mul-lt-mul_of_pos_right, mul-pos, one-mul, arith, le→leb, leb→le, pow_pos, pow-add}
+use Rattle.std.proofs.Common.{◌≡◌, ℕ, zero, suc, ◌+◌, ◌-◌, ◌*◌, ◌/◌, ◌%◌, ◌^◌, ◌<◌, ◌≤◌, Bool, true, false, cond, T, eqb, pos, sym, refl, ap, ◌∙◌, subst, ap₂, inl, inr, mod-lt, mul_assoc, mul-pos, one-mul, arith, le→leb, leb→le, pow_pos, pow-add}
 use lib.Ieee.{Float, nan, inf, fin, binary64, up, down, unlike, round, of_fields, of_bits, to_bits, of_int, fits, rem, mul}
 use lib.Ieee.Fits.{up_pos, down_pos, eq→eqb}
 use lib.Ieee.Exact.{HasValue}

@@ -89,6 +89,8 @@ own-unique f (fin t zero g) s m e p q v =
 own-unique f (fin t (suc n) g) s m e p q v =
     let r = same-exp (suc m) (suc n) g e (fit-odd f t n g p) (fit-odd f s m e q) v.1 in
     λ i. fin (v.0 i) (r.0 i) (r.1 i)
+own-unique f lib.Ieee.nan s m e p q v = elim v [ ]
+own-unique f (lib.Ieee.inf _) s m e p q v = elim v [ ]
 
 -- ---- a value that fits is rounded to itself
 

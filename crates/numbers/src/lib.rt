@@ -1,4 +1,6 @@
 // Numbers of the bore-sheet box: the stand-ins for std's functions on doubles, angles, lengths, vectors and matrices.
+#![tactic(auto)]
+
 pub mod angles;
 pub mod arctangent;
 pub mod float;
@@ -12,15 +14,15 @@ mod units;
 pub mod vectors;
 
 // An angle: a wrapped number, in radians.
-#[derive(Drop)]
+#[derive(Clone, Copy)]
 pub struct Angle(pub f64);
 
 // A length: a wrapped number, in metres.
-#[derive(Drop)]
+#[derive(Clone, Copy)]
 pub struct Length(pub f64);
 
 // A 3-element vector.
-#[derive(Drop)]
+#[derive(Clone, Copy)]
 pub struct Vec3 {
     pub x: f64,
     pub y: f64,
@@ -28,7 +30,7 @@ pub struct Vec3 {
 }
 
 // A 3*3 matrix.
-#[derive(Drop)]
+#[derive(Clone, Copy)]
 pub struct Mat33 {
     pub r0: Vec3,
     pub r1: Vec3,

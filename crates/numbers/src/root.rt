@@ -25,14 +25,14 @@ const DOWN_BITS: u64 = 0x5fe0_0000_0000_0000;
 const CUT: f64 = 201326592.0;
 
 // w * 2^52 as a square and a rest.
-#[derive(Drop)]
+#[derive(Clone, Copy)]
 struct Rooted {
     pub root: u64,
     pub rest: u64,
 }
 
 // A number of 53 or 54 digits, and a power of four.
-#[derive(Drop)]
+#[derive(Clone, Copy)]
 struct Fours {
     pub w: u64,
     pub g: u64,

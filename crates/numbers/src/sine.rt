@@ -40,7 +40,7 @@ fn cos_poly(r: f64) -> f64
 }
 
 // A number of quarter turns, as a double and modulo 4.
-#[derive(Drop)]
+#[derive(Clone, Copy)]
 struct Turned {
     pub n: f64,
     pub quarter: u64,

@@ -13,7 +13,7 @@ pub const MINUS_ZERO_BITS: u64 = 0x8000_0000_0000_0000;
 pub const SIGN: u64 = MINUS_ZERO_BITS;
 
 // m * 2^e units.
-#[derive(Drop)]
+#[derive(Clone, Copy)]
 pub struct Scaled {
     pub m: u64,
     pub e: u64,

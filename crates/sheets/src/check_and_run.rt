@@ -5,7 +5,7 @@ use crate::answers::{CheckAnswer, RunAnswer};
 use crate::check::check;
 use crate::run::run;
 
-#[derive(Drop)]
+#[derive(Clone, Copy)]
 pub struct BothAnswers {
     pub checked: CheckAnswer,
     pub ran: RunAnswer,

@@ -1,5 +1,7 @@
 // Bore sheets: the check of a sheet and its run over sixteen readings, and what they are made of: values and the table of names, the reader of lines, words, numbers and expressions, the rows of the kind table and the limits, the walk over kinds, the evaluator and the text of a value.
 // Other crates see the check, the run and their answers, and the reader: each function of these modules answers by an equation, whatever it is given.
+#![tactic(auto)]
+
 pub mod answers;
 pub mod check;
 pub mod check_and_run;
@@ -11,7 +13,7 @@ use frames::{GeocentricPosition, GeodeticPosition, LocalFrame, LocalVector};
 use numbers::{Angle, Length};
 
 // A sheet value.
-#[derive(Drop)]
+#[derive(Clone, Copy)]
 pub(crate) enum Value {
     Number(f64),
     Radians(Angle),
@@ -23,7 +25,7 @@ pub(crate) enum Value {
 }
 
 // What an operator makes of its arguments: a value, nothing as no row fits, or nothing as the position is too near the centre.
-#[derive(Drop)]
+#[derive(Clone, Copy)]
 pub(crate) enum Applied {
     Value(Value),
     NoRow,
@@ -32,7 +34,7 @@ pub(crate) enum Applied {
 
 // A kind code, of a value or of a line, and a number: of an expression the place after it, of a let the place of the next line, of any other line the bytes then written.
 // Else the number of the refusal that stops the machine, 7, 8 or 9; or that the machine sticks.
-#[derive(Drop)]
+#[derive(Clone, Copy)]
 pub(crate) enum Evaluated {
     Is(u8, usize),
     Stops(u8),

@@ -5,21 +5,21 @@ ghost use Rattle.io.specs.Counts.{IsPrefixLen};
 use libc::STDIN_FILENO;
 
 // What sixteen places hold.
-#[derive(Drop)]
+#[derive(Clone, Copy)]
 enum Word {
     Is(u64),
     Not,
 }
 
 // The words of a line. They are all there where ok.
-#[derive(Drop)]
+#[derive(Clone, Copy)]
 pub struct Given {
     pub ok: bool,
     pub words: [u64; 32],
 }
 
 // How many bytes of a sheet were read. They are all there where ok, and none where not.
-#[derive(Drop)]
+#[derive(Clone, Copy)]
 pub struct Decoded {
     pub ok: bool,
     pub count: usize,

@@ -1,5 +1,7 @@
 // Published examples, computed by `frames` and compared with the published figures to the precision they are printed with.
 // A line of standard output is an example's figure, and whether it is met.
+#![tactic(auto)]
+
 mod gade;
 mod given;
 mod jord;

@@ -1,6 +1,8 @@
 // Reads sheets from standard input, and prints what the reader of `sheets` finds in each.
 // A sheet is a line of the input: how many bytes it has, as four hexadecimal digits, a space, and the bytes, two digits each.
 // Sizes are 1 to 16,384: any other is refusal 1, and no matter of the reader. What is not of this form is answered by `?`, and nothing behind it is read.
+#![tactic(auto)]
+
 mod report;
 mod text;
 mod tree;

@@ -1,5 +1,7 @@
 // Every operation of `numbers` and of `frames` under a number, for the comparison with the Rust and for replaying its recorded answers.
 // Inputs and outputs are bits. The tables of the operations are specs/NumbersTable.antt and specs/FramesTable.antt.
+#![tactic(auto)]
+
 pub mod frames_answers;
 pub mod frames_direct;
 pub mod frames_ellipsoids;

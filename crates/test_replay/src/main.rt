@@ -1,5 +1,7 @@
 // Answers recorded operations: a line of standard input is an operation and its inputs, a line of standard output the operation and its outputs.
 // Three decimal digits, then a space and sixteen hexadecimal digits for each word. A line of another form is answered by `?`.
+#![tactic(auto)]
+
 mod answers;
 mod tables;
 
@@ -39,7 +41,7 @@ fn feed(chunk: &[u8], held: &mut [u8], n: usize) -> usize
 }
 
 // How many bytes the line so far has, and whether to go on.
-#[derive(Drop)]
+#[derive(Clone, Copy)]
 struct Step {
     pub more: bool,
     pub n: usize,

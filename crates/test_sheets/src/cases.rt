@@ -6,14 +6,14 @@ use numbers::float::double;
 use test_cases::input::{size, words};
 
 // Readings. They are what a case says where ok.
-#[derive(Drop)]
+#[derive(Clone, Copy)]
 pub struct Values {
     pub ok: bool,
     pub values: [f64; 128],
 }
 
 // How many places of the kind list, readings and bytes of output a case lends. They are what it says where ok.
-#[derive(Drop)]
+#[derive(Clone, Copy)]
 pub struct Lent {
     pub ok: bool,
     pub kinds: usize,

@@ -3,6 +3,8 @@
 // A sheet is a line of the input: how many bytes it has, as four hexadecimal digits, a space, the bits of the sixteen readings, sixteen digits and a space each, and the sheet's bytes, two digits each.
 // Where a comma stands instead of the last of these spaces, three lengths stand before the sheet's bytes, four digits and a space each: so many places of the kind list, readings and bytes of output are lent; else as many as document 01 asks for. Readings behind the sixteenth are 0.
 // Sizes are 0 to 16,385, one beyond the largest sheet. What is not of this form is answered by `?`, and nothing behind it is read.
+#![tactic(auto)]
+
 mod cases;
 mod report;
 

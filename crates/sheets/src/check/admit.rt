@@ -19,21 +19,21 @@ use crate::rows::kinds::opens;
 use frames::Ellipsoid;
 
 // The code of a line's word, its kind code and the place of the next line, or the number of the refusal.
-#[derive(Drop)]
+#[derive(Clone, Copy)]
 pub enum LineKind {
     Is(u64, u8, usize),
     Refused(u8),
 }
 
 // Of a sheet that passes: how many lines it has, its ellipsoid and the place of line 2. Else the number of the refusal and its line.
-#[derive(Drop)]
+#[derive(Clone, Copy)]
 pub enum Outcome {
     Passes(usize, Ellipsoid, usize),
     Refuses(u8, usize),
 }
 
 // The outcome, and the kind code of each line of a sheet that passes, 255 for line 1.
-#[derive(Drop)]
+#[derive(Clone, Copy)]
 pub struct Admission {
     pub outcome: Outcome,
     pub codes: [u8; 96],

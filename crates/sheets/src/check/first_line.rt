@@ -12,7 +12,7 @@ use frames::Ellipsoid;
 use numbers::Length;
 
 // The ellipsoid and the place of line 2; or that place, where a number of line 1 is out of range; or the bytes begin with no line 1.
-#[derive(Drop)]
+#[derive(Clone, Copy)]
 pub enum FirstLine {
     Is(Ellipsoid, usize),
     OutOfRange(usize),

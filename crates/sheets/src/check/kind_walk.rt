@@ -12,14 +12,14 @@ use crate::reader::words;
 use crate::rows::kinds::kind_of_row;
 
 // The code of a kind and the place after the expression, or the number of the refusal.
-#[derive(Drop)]
+#[derive(Clone, Copy)]
 pub enum KindRead {
     Is(u8, usize),
     Refused(u8),
 }
 
 // The kinds of a bracket's arguments as one number, as `kind_of_row` takes it, and the place after the bracket; or the number of the refusal.
-#[derive(Drop)]
+#[derive(Clone, Copy)]
 pub enum KeyRead {
     Is(u64, usize),
     Refused(u8),

@@ -6,7 +6,7 @@ ghost use Rattle.sheets.specs.code.reader.Reader.{read_word};
 ghost use Rattle.sheets.specs.code.reader.Views.{ByteAt, CharOf, stands_at, coded};
 
 // A word's code in base 37 and the place after it.
-#[derive(Drop)]
+#[derive(Clone, Copy)]
 pub enum WordRead {
     Is(u64, usize),
     Not,

@@ -7,7 +7,7 @@ use crate::reader::bytes::{WordRead, byte, word};
 use crate::reader::num::{NumRead, num};
 
 // The place after what was read, or Bad where it is not of the grammar.
-#[derive(Drop)]
+#[derive(Clone, Copy)]
 pub enum Read {
     At(usize),
     Bad,

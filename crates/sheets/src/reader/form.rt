@@ -9,7 +9,7 @@ use crate::reader::head::{HeadRead, head};
 use crate::reader::lines::line_end;
 
 // How many lines there are, or the number of the first that is not of the grammar, 97 where there are more than 96.
-#[derive(Drop)]
+#[derive(Clone, Copy)]
 pub enum FormRead {
     Fine(usize),
     Bad(usize),

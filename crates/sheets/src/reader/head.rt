@@ -12,7 +12,7 @@ use crate::reader::num::{DoubleRead, double};
 use crate::reader::words;
 
 // Line 1: its two numbers as doubles, where it has them, and the place of the next line.
-#[derive(Drop)]
+#[derive(Clone, Copy)]
 pub enum HeadRead {
     Wgs(usize),
     Custom(f64, f64, usize),

@@ -9,7 +9,7 @@ use crate::reader::num::{DoubleRead, unsigned};
 use crate::reader::words;
 
 // A line's word: its code, and where it stands, from its first byte to the place after it.
-#[derive(Drop)]
+#[derive(Clone, Copy)]
 pub struct NameAt {
     pub code: u64,
     pub from: usize,
@@ -17,14 +17,14 @@ pub struct NameAt {
 }
 
 // A word, and the place after what was read with it.
-#[derive(Drop)]
+#[derive(Clone, Copy)]
 pub(crate) enum NameRead {
     Is(NameAt, usize),
     Not,
 }
 
 // A line that is read whole: which it is, with its word where it has one, or its NUM as a double.
-#[derive(Drop)]
+#[derive(Clone, Copy)]
 pub enum WholeLine {
     Show(NameAt),
     Total,
@@ -32,7 +32,7 @@ pub enum WholeLine {
 }
 
 // What a line is: a let, with its word and the place of its expression; or any other line, and the place of the next one.
-#[derive(Drop)]
+#[derive(Clone, Copy)]
 pub enum LineHead {
     Let(NameAt, usize),
     Whole(WholeLine, usize),

@@ -8,7 +8,7 @@ use crate::reader::bytes::{byte, digit};
 use numbers::float::decimal;
 
 // Some digits: their number, how many there are, and the place after them.
-#[derive(Drop)]
+#[derive(Clone, Copy)]
 pub struct DigitsRead {
     pub value: u64,
     pub count: usize,
@@ -16,7 +16,7 @@ pub struct DigitsRead {
 }
 
 // A NUM: its sign, all its digits as one number, how many stand behind the point, and the place after it.
-#[derive(Drop)]
+#[derive(Clone, Copy)]
 pub struct Numeral {
     pub minus: bool,
     pub digits: u64,
@@ -24,14 +24,14 @@ pub struct Numeral {
     pub end: usize,
 }
 
-#[derive(Drop)]
+#[derive(Clone, Copy)]
 pub enum NumRead {
     Is(Numeral),
     Not,
 }
 
 // The double of a NUM, and the place after it.
-#[derive(Drop)]
+#[derive(Clone, Copy)]
 pub enum DoubleRead {
     Is(f64, usize),
     Not,

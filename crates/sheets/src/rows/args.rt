@@ -12,21 +12,21 @@ use frames::{GeocentricPosition, GeodeticPosition, LocalFrame, LocalVector, Orie
 use numbers::{Angle, Length};
 
 // Three lengths, where the arguments are three lengths.
-#[derive(Drop)]
+#[derive(Clone, Copy)]
 pub enum Lengths {
     Are(Length, Length, Length),
     Not,
 }
 
 // Two angles and a length, where the arguments are these.
-#[derive(Drop)]
+#[derive(Clone, Copy)]
 pub enum Aer {
     Are(Angle, Angle, Length),
     Not,
 }
 
 // The axis that an angle of a frame is about.
-#[derive(Drop)]
+#[derive(Clone, Copy)]
 pub enum Axis {
     Z,
     Y,

@@ -7,7 +7,7 @@ use crate::Value;
 use crate::rows::args::place_of;
 
 // A place in the table of names: a word's code, 0 where the place is empty, and the word's value.
-#[derive(Drop)]
+#[derive(Clone, Copy)]
 pub struct Slot {
     pub word: u64,
     pub value: Value,

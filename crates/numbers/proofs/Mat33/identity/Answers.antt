@@ -1,0 +1,9 @@
+-- `numbers::Mat33::identity` meets its contract, by computation. Assumes nothing.
+use Rattle.std.proofs.Common.{refl}
+use lib.Ieee as Ieee
+use Rattle.numbers.specs.Ops.{decimal}
+use Rattle.numbers.proofs.Mat33.identity.Goals as goal
+
+pub returns : goal.returns
+unfolding Ieee.of_bits decimal
+returns c = refl

@@ -1,0 +1,43 @@
+-- `numbers::float::rem` meets its contract. Assumes nothing.
+use Rattle.std.proofs.Common.{ℕ, ◌<◌, T, pos, sym, ap, ◌∙◌, subst, mod-lt, arith}
+use lib.Ieee.{binary64, mul, of_int}
+use Rattle.numbers.proofs.Constants.{zero_by_zero}
+use Rattle.numbers.proofs.Quotient.{exact}
+use Rattle.numbers.proofs.RemLaws.{not_finite, by-nan, by_zero, smaller, larger}
+use Rattle.numbers.proofs.float.rem.Goals as goal
+
+pub returns-then-a-ge-INFINITY_BITS : goal.returns-then-a-ge-INFINITY_BITS
+returns-then-a-ge-INFINITY_BITS c = zero_by_zero ∙ not_finite _ _ (subst T (sym c.well_formed.0.1) tt) (rw c.bits-b.ensures at c.if-a-ge-INFINITY_BITS.true)
+
+pub returns-then-d-gt-INFINITY_BITS : goal.returns-then-d-gt-INFINITY_BITS
+returns-then-d-gt-INFINITY_BITS c = zero_by_zero ∙ by-nan _ _ (subst T (sym c.well_formed.1.0.1) tt) (rw c.bits-d.ensures at c.if-d-gt-INFINITY_BITS.true)
+
+pub returns-then-d-eq0 : goal.returns-then-d-eq0
+returns-then-d-eq0 c = zero_by_zero ∙ by_zero _ _ (subst T (sym c.well_formed.1.0.1) tt) (rw c.bits-d.ensures at c.if-d-eq0.true)
+
+pub returns-then-a-d : goal.returns-then-a-d
+returns-then-a-d c =
+    smaller _ _ (subst T (sym c.well_formed.0.1) tt) (subst T (sym c.well_formed.1.0.1) tt)
+    (rw c.bits-b.ensures at c.if-a-ge-INFINITY_BITS.false)
+    (rw c.bits-d.ensures at c.if-d-gt-INFINITY_BITS.false)
+    (rw (c.bits-b.ensures, c.bits-d.ensures) at c.if-a-d.true)
+
+pub shifted-rest-requires : goal.shifted-rest-requires
+shifted-rest-requires c = (c.parts-q.ensures.some (omega arith), omega (arith, c.parts-q.ensures.short))
+
+pub int_to_float-result : goal.int_to_float-result
+int_to_float-result c =
+    let n = c.parts-q.result.m in
+    let p : 0 < n = c.parts-q.ensures.some (omega arith) in
+    let l : c.shifted-rest.result < n = subst (λ (z : ℕ). z < n) (sym c.shifted-rest.ensures) (mod-lt _ p) in
+    exact _ (omega (arith, c.parts-q.ensures.short))
+
+pub returns : goal.returns
+returns c =
+    let rest = c.shifted-rest.result in
+    let b = c.bits-b.ensures in
+    let d = c.bits-d.ensures in
+    ap (mul binary64 (of_int binary64 (pos rest))) (rw b at c.double.ensures)
+    ∙ larger c.args.x c.args.y _ _ _ _ rest _ (subst T (sym c.well_formed.0.1) tt) (subst T (sym c.well_formed.1.0.1) tt)
+    (rw b at c.if-a-ge-INFINITY_BITS.false) (rw d at c.if-d-eq0.false) (rw (b, d) at c.if-a-d.false)
+    (rw b at c.parts-p.ensures) (rw d at c.parts-q.ensures) c.shifted-rest.ensures c.unit_bits.ensures

@@ -1,0 +1,11 @@
+-- `numbers::numbers::gte` meets its contract. Assumes nothing.
+use Rattle.numbers.specs.Floats.{near_or_above}
+use Rattle.numbers.proofs.numbers.gte.Goals as goal
+
+pub returns-then-left-right : goal.returns-then-left-right
+unfolding near_or_above
+returns-then-left-right c = simp c.if-left-right.true
+
+pub returns : goal.returns
+unfolding near_or_above
+returns c = simp (c.eq.ensures, c.if-left-right.false)
