@@ -1,6 +1,6 @@
 -- Names that stand apart, by pairs: every two of the g values shown are clear of each other, or some two are not. Assumes nothing.
 use mathlib.Core.Path.{◌≡◌, refl, sym, ap, ap₂, ◌∙◌}
-use mathlib.Core.Logic.{◌⊎◌, inl, inr}
+use mathlib.Core.Logic.{inl, inr}
 use mathlib.Core.List.{List, [], ◌∷◌, ◌++◌}
 use mathlib.Core.Option.{Option, none, some}
 use mathlib.Core.Bool.{Bool, true, false, ◌||◌, true≢false}
@@ -49,6 +49,7 @@ module _ (least : Float) where
   clear_of_lem : (a : Fix) (fs : List Fix) → clear_of least a fs ≡ true → (b : Fix) → In b fs → clear least a b ≡ true
   clear_of_lem a (c ∷ fs) h b (inl e) = ap (clear least a) e ∙ (and_both (clear least a c) (clear_of least a fs) h).0
   clear_of_lem a (c ∷ fs) h b (inr i) = clear_of_lem a fs (and_both (clear least a c) (clear_of least a fs) h).1 b i
+  clear_of_lem a [] h b x'' = elim x'' [ ]
 
   -- where they stand apart every two are clear of each other, in either order
   pub every_two : (fs : List Fix) → stand_apart least fs ≡ true → (a b : Fix) → In a fs → In b fs → clear least a b ≡ true
@@ -57,6 +58,7 @@ module _ (least : Float) where
   every_two (c ∷ fs) h a b (inl e) (inr j) = ap (λ x. clear least x b) e ∙ clear_of_lem c fs (and_both (clear_of least c fs) (stand_apart least fs) h).0 b j
   every_two (c ∷ fs) h a b (inr j) (inl e) = clear_comm least a b ∙ ap (λ x. clear least x a) e ∙ clear_of_lem c fs (and_both (clear_of least c fs) (stand_apart least fs) h).0 a j
   every_two (c ∷ fs) h a b (inr i) (inr j) = every_two fs (and_both (clear_of least c fs) (stand_apart least fs) h).1 a b i j
+  every_two [] h a b x3 _ = elim x3 [ ]
 
   some_of : (a : Fix) (fs : List Fix) → clear_of least a fs ≡ false → (b : Fix) × In b fs × (clear least a b ≡ false)
   some_of a [] h = absurd (true≢false h)
@@ -106,6 +108,7 @@ shown-fix (shown j h ∷ es) i g p (inr k) ev = go (held 𝐠 h.value) (shown-fi
     go none m = m
     go (some q) m = inr m
 shown-fix (summed t ∷ es) i g p (inr k) ev = shown-fix es i g p k ev
+shown-fix [] i g p x'' ev = elim x'' [ ]
 
 abbrev ShowOf : List Entry → Fix → Type 0
 ShowOf es x = (i : ℕ) × (g : Given Value) × In (shown i g) es × (g.line ≡ x.line) × (g.value ≡ Geocentric x.position)
@@ -122,3 +125,4 @@ fix-shown (shown j h ∷ es) x m = go (held 𝐠 h.value) refl (fix-shown es x) 
     go (some q) eo ih (inl e) = (j, h, inl refl, sym (ap (λ (f : Fix). f.line) e), held-position h.value q eo ∙ ap Geocentric (sym (ap (λ (f : Fix). f.position) e)))
     go (some q) eo ih (inr m) = later (ih m)
 fix-shown (summed t ∷ es) x m = let (i, g, k, e, ev) = fix-shown es x m in (i, g, inr k, e, ev)
+fix-shown [] x m = elim m [ ]

@@ -11,7 +11,7 @@ use Rattle.frames.specs.declared.GeocentricPosition.{GeocentricPosition}
 use Rattle.frames.specs.declared.Ellipsoid.{Ellipsoid}
 use Rattle.frames.specs.declared.LocalFrame.{LocalFrame}
 use Rattle.sheets.specs.declared.Value.{Value}
-use Rattle.sheets.specs.declared.Value.TheVariants.{Number, Metres, Geocentric}
+use Rattle.sheets.specs.declared.Value.TheVariants.{Number, Metres}
 use Rattle.sheets.specs.Trees.{Unsigned, signless, Expr, Exprs, word_expr, num_expr, form_expr, nil, ◌▸◌, Line, let_line, show_line, total_line, apart_line, Sheet, Numbered, numbered}
 use Rattle.sheets.specs.Grammar.{Written, Form, formed, bad_line}
 use Rattle.sheets.specs.Table.{on, table}
@@ -53,6 +53,7 @@ one_more i s t (a_show w) h (n, ew, e) = ((λ j g k. go j g (subst (In (shown j 
   where
     here : (j : ℕ) (g : Given Value) → In (shown j g) (shown i n ∷ []) → j ≡ i
     here j g (inl e) = cc
+    here j g (inr x4) = elim x4 [ ]
 
     go : (j : ℕ) (g : Given Value) → In (shown j g) (s.entries ++ (shown i n ∷ [])) → j < suc i
     go j g k = elim (in_either (shown j g) s.entries (shown i n ∷ []) k) [
@@ -69,6 +70,7 @@ one_more i s t a-total h e = ((λ j g k. later i j s.entries g h (back j g (subs
   where
     none-such : {C : Type 0} (j : ℕ) (g : Given Value) → In (shown j g) (summed (total s.entries) ∷ []) → C
     none-such j g (inl e) = let z : ◌≡◌ {A = ℕ} 0 1 = cc in absurd (omega arith)
+    none-such {C = C} j g (inr x3) = elim x3 [ ]
 
     back : (j : ℕ) (g : Given Value) → In (shown j g) (s.entries ++ (summed (total s.entries) ∷ [])) → In (shown j g) s.entries
     back j g k = elim (in_either (shown j g) s.entries (summed (total s.entries) ∷ []) k) [

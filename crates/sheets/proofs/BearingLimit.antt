@@ -17,6 +17,7 @@ unfolding le neg decimal
 near-finite (inf true) h = h
 near-finite (inf false) h = h
 near-finite (fin s m e) h = tt
+near-finite lib.Ieee.nan h = elim h [ ]
 
 pub bearing-within : (v : LocalVector) → in_limit (Vector v) ≡ true → InTurn (bearing v)
 unfolding in_limit

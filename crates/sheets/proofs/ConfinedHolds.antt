@@ -53,6 +53,7 @@ tells-confined out (done fs s) fits r out' (er, eo) = rw (er, eo) (text-laid out
 tells-confined out (stopped fs limit i s) fits r out' (er, eo) = rw (er, eo) (text-laid out (ran_text (stopped fs limit i s)) 7 i fits (λ a b c d. absurd (b refl)))
 tells-confined out (stopped fs centre i s) fits r out' (er, eo) = rw (er, eo) (text-laid out (ran_text (stopped fs centre i s)) 8 i fits (λ a b c d. absurd (c refl)))
 tells-confined out (stopped fs apart i s) fits r out' (er, eo) = rw (er, eo) (text-laid out (ran_text (stopped fs apart i s)) 9 i fits (λ a b c d. absurd (d refl)))
+tells-confined out (Rattle.sheets.specs.Machine.stuck _ _ _) fits r out' x5 = elim x5 [ ]
 
 pub output_confined : (S : List ℕ) (R : List Float) (out : List ℕ) (r : RunAnswer) (out' : List ℕ) → RunOwes S R out r out' → OutputConfined out r out'
 output_confined S R out r out' o = go (verdict (lent_run R out) S o.form_is) (lent_says S (lent_run R out) o.form_is o.grammar) o.answer

@@ -7,6 +7,7 @@ module _ {A : Type 0} (x : A) where
   pub in_left : (xs ys : List A) → In x xs → In x (xs ++ ys)
   in_left (y ∷ xs) ys (inl e) = inl e
   in_left (y ∷ xs) ys (inr i) = inr (in_left xs ys i)
+  in_left [] ys x'' = elim x'' [ ]
 
   pub in_right : (xs ys : List A) → In x ys → In x (xs ++ ys)
   in_right [] ys i = i

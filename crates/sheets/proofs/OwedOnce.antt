@@ -20,6 +20,7 @@ module _ (rs : List Float) (out : List ℕ) (r q : RunAnswer) (o p : List ℕ) w
   tells-once : (m : Ran) → Tells m out r o → Tells m out q p → (r ≡ q) × (o ≡ p)
   tells-once (done fs s) a b = (a.0 ∙ sym b.0, a.1 ∙ sym b.1)
   tells-once (stopped fs k i s) a b = (a.0 ∙ sym b.0, a.1 ∙ sym b.1)
+  tells-once (Rattle.sheets.specs.Machine.stuck _ _ _) a b = elim a [ ]
 
   verdict-once : (v : Verdict) → RunOf v rs out r o → RunOf v rs out q p → (r ≡ q) × (o ≡ p)
   verdict-once (admitted c cs) a b = tells-once (machine c rs) a b

@@ -155,6 +155,7 @@ module _ (fs : List Fix) (lets : ℕ → ℕ) (js : List ℕ) (f : List Float) (
 
       only : (y : Fix) → In y (x ∷ []) → y ≡ x
       only y (inl e) = e
+      only y (inr x'') = elim x'' [ ]
 
       marked : (p : ℕ) → get_or js p 0 ≡ 1 → (b : Bool) → eqb p j ≡ b → get_or (set js j 1) p 0 ≡ 1
       marked p m true e = ap (λ p. get_or (set js j 1) p 0) (eqb-true p j e) ∙ here

@@ -4,7 +4,6 @@ use Rattle.std.proofs.Math.Option.{Option, none, some}
 use Rattle.frames.specs.declared.Ellipsoid.{Ellipsoid}
 use Rattle.frames.specs.declared.Orientation.{Orientation}
 use Rattle.frames.specs.declared.Orientation.TheVariants.{Enu, Ned, Body, Wan}
-use Rattle.sheets.specs.declared.Value.{Value}
 use Rattle.sheets.specs.declared.Applied.{Applied}
 use Rattle.sheets.specs.declared.Applied.TheVariants.{Value as value, NoRow, Centre}
 use Rattle.sheets.specs.declared.rows.args.Lengths.{Lengths}

@@ -1,0 +1,7 @@
+-- `sheets::run::fields::put_hex` meets its contract. Assumes nothing.
+use Rattle.sheets.proofs.run.DigitLaws.{sixteen}
+use Rattle.sheets.proofs.run.fields.put_hex.Goals as goal
+
+pub returns : goal.returns
+returns c =
+    sixteen c.args.n c.put_eight-m.ensures c.put_eight.ensures

@@ -1,0 +1,25 @@
+-- `sheets::run::text::output_line` meets its contract. Assumes nothing.
+use native.Mathlib.Omega.{arith}
+use Rattle.sheets.proofs.run.LineText.{room-told, value-length, line-none, line-whole}
+use mathlib.Core.Path.{ap}
+use mathlib.Core.Bool.{not}
+use Rattle.sheets.proofs.run.text.output_line.Goals as goal
+
+pub returns-then-not-ok : goal.returns-then-not-ok
+returns-then-not-ok c = line-none _ _ _ _ _ _ c.has_room-ok.ensures (ap not c.if-not-ok.true)
+
+pub put_part-i-requires : goal.put_part-i-requires
+put_part-i-requires c = let h = (room-told _ c.args.s.now _ _ c.args.out.now _ c.has_room-ok.ensures (ap not c.if-not-ok.false)) in (h.0, h.1, h.2)
+
+pub put_byte-j-requires : goal.put_byte-j-requires
+put_byte-j-requires c = omega (arith, (room-told _ c.args.s.now _ _ c.args.out.now _ c.has_room-ok.ensures (ap not c.if-not-ok.false)).3)
+
+pub put_value-k-requires : goal.put_value-k-requires
+put_value-k-requires c = omega (arith, (room-told _ c.args.s.now _ _ c.args.out.now _ c.has_room-ok.ensures (ap not c.if-not-ok.false)).3)
+
+pub put_byte-requires : goal.put_byte-requires
+put_byte-requires c = omega (arith, (room-told _ c.args.s.now _ _ c.args.out.now _ c.has_room-ok.ensures (ap not c.if-not-ok.false)).3, value-length c.args.v)
+
+pub returns : goal.returns
+returns c =
+    line-whole _ _ _ _ c.has_room-ok.result _ c.has_room-ok.ensures (ap not c.if-not-ok.false) c.put_part-i.ensures c.put_byte-j.ensures c.put_value-k.ensures c.put_byte.ensures
