@@ -1,8 +1,9 @@
 // Hexadecimal digits, and the sizes, words and bytes that they stand for.
-ghost use Rattle.std.specs.Prelude.{◌+◌, ◌*◌, ◌≤◌, length};
-ghost use Rattle.io.specs.Counts.{IsPrefixLen};
+ghost use Rattle.std.specs.Prelude.{◌≡◌, ◌+◌, ◌*◌, ◌≤◌, length, IfOk, OnErr};
+ghost use Rattle.std.specs.Counts.{IsPrefixLen};
 
-use libc::STDIN_FILENO;
+use std::io;
+use std::io::Read;
 
 // What sixteen places hold.
 #[derive(Clone, Copy)]
@@ -161,30 +162,46 @@ fn decode(digits: &[u8; 65536], sheet: &mut [u8], count: usize) -> bool
     true
 }
 
-// Reads `count` bytes from standard input, two digits each and LF behind them, and puts them at the start of `sheet`. Not ok where they are not that; nothing is read where they are more than `sheet` holds, or than 32,767.
-pub fn read_bytes(sheet: &mut [u8], count: usize) -> Decoded
-    ensures { IsPrefixLen result.count sheet.new }
+// Reads until `buf` is full or the input ends: how many bytes stand at the start of `buf`. An error is that of a read that failed; what came before it may stand in `buf`.
+pub fn read_full(input: &mut impl Read, buf: &mut [u8]) -> io::Result<usize>
+    ensures { IfOk result (λ n. IsPrefixLen n buf.new) }
+{
+    let mut done: usize = 0;
+    while done < buf.len() {
+        let n = input.read(&mut buf[done..])?;
+        if n == 0 {
+            break;
+        }
+        done += n;
+    }
+    Ok(done)
+}
+
+// Reads `count` bytes, two digits each and LF behind them, and puts them at the start of `sheet`. Not ok where they are not that; nothing is read where they are more than `sheet` holds, or than 32,767. An error is that of a read that failed, and leaves `sheet` as it was.
+pub fn read_bytes(input: &mut impl Read, sheet: &mut [u8], count: usize) -> io::Result<Decoded>
+    ensures ok { IfOk result (λ d. IsPrefixLen d.count sheet.new) }
+    ensures err { OnErr result (sheet.new ≡ sheet.old) }
 {
     if 32767 < count {
-        return Decoded {
+        return Ok(Decoded {
             ok: false,
             count: 0,
-        };
+        });
     }
     if sheet.len() < count {
-        return Decoded {
+        return Ok(Decoded {
             ok: false,
             count: 0,
-        };
+        });
     }
-    let mut digits = io::large_buffer();
+    let mut digits = [0u8; 65536];
     let wanted = 2 * count + 1;
-    io::read_full(STDIN_FILENO, &mut digits[..wanted]);
+    read_full(input, &mut digits[..wanted])?;
     if !decode(&digits, sheet, count) {
-        return Decoded {
+        return Ok(Decoded {
             ok: false,
             count: 0,
-        };
+        });
     }
-    Decoded { ok: true, count }
+    Ok(Decoded { ok: true, count })
 }

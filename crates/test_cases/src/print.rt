@@ -1,10 +1,10 @@
-// How bytes and numbers are printed.
-use libc::STDOUT_FILENO;
+// How bytes and numbers are printed. An error is that of a write that failed; some of the text may have been written before it.
+use std::io;
 
-pub fn put(text: &[u8]) {
-    io::write_all(STDOUT_FILENO, text);
+pub fn put(rt: &impl Print, text: &[u8]) -> io::Result<()> {
+    rt.write_all(text)
 }
 
-pub fn decimal(n: usize) {
-    io::print_decimal(STDOUT_FILENO, n as u64);
+pub fn decimal(rt: &impl Print, n: usize) -> io::Result<()> {
+    print!(rt; "{n}")
 }
