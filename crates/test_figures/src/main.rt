@@ -8,13 +8,15 @@ mod jord;
 mod nima;
 mod report;
 
-fn main() {
-    jord::from_aer();
-    jord::radii();
-    jord::lengths();
-    nima::radii();
-    gade::example_1();
-    gade::example_2();
-    gade::example_3();
-    gade::example_4();
+use std::io;
+
+fn main(rt: HostRuntime) -> io::Result<()> {
+    jord::from_aer(&rt)?;
+    jord::radii(&rt)?;
+    jord::lengths(&rt)?;
+    nima::radii(&rt)?;
+    gade::example_1(&rt)?;
+    gade::example_2(&rt)?;
+    gade::example_3(&rt)?;
+    gade::example_4(&rt)
 }
