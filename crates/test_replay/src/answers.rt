@@ -1,6 +1,6 @@
 // A line of an operation and its inputs, and the line of its answer.
 ghost use Rattle.std.specs.Prelude.{◌+◌, ◌≤◌, length};
-ghost use Rattle.io.specs.Counts.{IsPrefixLen};
+ghost use Rattle.std.specs.Counts.{IsPrefixLen};
 
 use crate::tables::{apply, inputs_of, outputs_of};
 use test_cases::input::words;

@@ -5,22 +5,23 @@
 mod answers;
 mod tables;
 
-ghost use Rattle.std.specs.Prelude.{◌≤◌, length};
+ghost use Rattle.std.specs.Prelude.{◌≤◌, length, IfOk};
 
-use libc::STDIN_FILENO;
+use std::io;
+use std::io::Read;
 use test_cases::print::put;
 
 // Writes the answer to a line.
-fn respond(s: &[u8]) {
+fn respond(rt: &impl Print, s: &[u8]) -> io::Result<()> {
     let mut out = [0u8; 412];
     let n = answers::line(s, &mut out);
-    put(&out[..n]);
+    put(rt, &out[..n])
 }
 
-// Answers each line that ends in the chunk. `held` has the n bytes of the line so far. Of a longer line it keeps as many as it can hold: no line of the form has so many.
-fn feed(chunk: &[u8], held: &mut [u8], n: usize) -> usize
+// Answers each line that ends in the chunk. `held` has the n bytes of the line so far. Of a longer line it keeps as many as it can hold: no line of the form has so many. An error is that of a write that failed; lines before it are answered.
+fn feed(rt: &impl Print, chunk: &[u8], held: &mut [u8], n: usize) -> io::Result<usize>
     requires { n ≤ length held.old }
-    ensures { result ≤ length held.new }
+    ensures { IfOk result (λ at. at ≤ length held.new) }
 {
     let mut at = n;
     let mut i: usize = 0;
@@ -28,7 +29,7 @@ fn feed(chunk: &[u8], held: &mut [u8], n: usize) -> usize
         let b = chunk[i];
         i += 1;
         if b == b'\n' {
-            respond(&held[..at]);
+            respond(rt, &held[..at])?;
             at = 0;
             continue;
         }
@@ -37,7 +38,7 @@ fn feed(chunk: &[u8], held: &mut [u8], n: usize) -> usize
             at += 1;
         }
     }
-    at
+    Ok(at)
 }
 
 // How many bytes the line so far has, and whether to go on.
@@ -47,41 +48,41 @@ struct Step {
     pub n: usize,
 }
 
-// Reads once, and answers the lines that end in what came.
-fn some(held: &mut [u8], n: usize) -> Step
+// Reads once, and answers the lines that end in what came. An error is that of a read or a write that failed.
+fn some(rt: &impl Print, input: &mut impl Read, held: &mut [u8], n: usize) -> io::Result<Step>
     requires { n ≤ length held.old }
-    ensures { result.n ≤ length held.new }
+    ensures { IfOk result (λ step. step.n ≤ length held.new) }
 {
-    let mut buffer = io::large_buffer();
-    let got = libc::read(STDIN_FILENO, &mut buffer);
-    if got <= 0 {
-        return Step { more: false, n };
+    let mut buffer = [0u8; 65536];
+    let got = input.read(&mut buffer)?;
+    if got == 0 {
+        return Ok(Step { more: false, n });
     }
-    let count = io::count(got, &buffer);
-    let n = feed(&buffer[..count], held, n);
-    Step { more: true, n }
+    let n = feed(rt, &buffer[..got], held, n)?;
+    Ok(Step { more: true, n })
 }
 
-// Reads to the end of the input: how many bytes stand after the last LF.
+// Reads to the end of the input: how many bytes stand after the last LF. An error is that of a read or a write that failed.
 // Nothing says that the input ends, so the turns are counted down, from a number that no run uses up.
-fn all(held: &mut [u8]) -> usize {
+fn all(rt: &impl Print, input: &mut impl Read, held: &mut [u8]) -> io::Result<usize> {
     let mut turns = u64::MAX;
     let mut n: usize = 0;
     while turns > 0 {
-        let step = some(held, n);
+        let step = some(rt, input, held, n)?;
         n = step.n;
         if !step.more {
-            return n;
+            return Ok(n);
         }
         turns -= 1;
     }
-    n
+    Ok(n)
 }
 
-fn main() {
+fn main(rt: HostRuntime) -> io::Result<()> {
     let mut held = [0u8; 548];
-    let n = all(&mut held);
+    let n = all(&rt, &mut rt.stdin(), &mut held)?;
     if n > 0 {
-        put(b"?\n");
+        put(&rt, b"?\n")?;
     }
+    Ok(())
 }
