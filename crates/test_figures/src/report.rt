@@ -2,7 +2,7 @@
 use numbers::float::abs;
 use std::io;
 
-// A figure is met where the value is within half a unit of its last decimal, or a little more for the rounding of the figure itself. Half is 0 where the figure is exact.
+// A figure is met where the value is within half a unit of its last decimal, or a little more for the rounding of the figure itself. Half is 0 where the figure is exact. An error is that of a write that failed.
 pub fn figure(
     rt: &impl Print,
     label: &str,

@@ -11,7 +11,7 @@ use std::io;
 use std::io::Read;
 use test_cases::print::put;
 
-// Writes the answer to a line.
+// Writes the answer to a line. An error is that of a write that failed.
 fn respond(rt: &impl Print, s: &[u8]) -> io::Result<()> {
     let mut out = [0u8; 412];
     let n = answers::line(s, &mut out);
