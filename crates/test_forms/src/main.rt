@@ -7,34 +7,37 @@ mod report;
 mod text;
 mod tree;
 
-use libc::STDIN_FILENO;
-use test_cases::input::{read_bytes, size};
+use std::io;
+use std::io::Read;
+use test_cases::input::{read_bytes, read_full, size};
 use test_cases::print::put;
 
-// Reads one sheet and prints what is found in it: whether to go on.
-fn next() -> bool {
+// Reads one sheet and prints what is found in it: whether to go on. An error is that of a read or a write that failed.
+fn next(rt: &impl Print, input: &mut impl Read) -> io::Result<bool> {
     let mut head = [0u8; 5];
-    let got = io::read_full(STDIN_FILENO, &mut head);
+    let got = read_full(input, &mut head)?;
     if got == 0 {
-        return false;
+        return Ok(false);
     }
     let mut sheet = [0u8; 16384];
-    let n = read_bytes(&mut sheet, size(&head)).count;
+    let n = read_bytes(input, &mut sheet, size(&head))?.count;
     if n == 0 {
-        put(b"?\n");
-        return false;
+        put(rt, b"?\n")?;
+        return Ok(false);
     }
-    report::sheet(&sheet[..n]);
-    true
+    report::sheet(rt, &sheet[..n])?;
+    Ok(true)
 }
 
 // Nothing says that the input ends, so the sheets are counted down, from a number that no run uses up.
-fn main() {
+fn main(rt: HostRuntime) -> io::Result<()> {
+    let mut input = rt.stdin();
     let mut left = u64::MAX;
     while 0 < left {
-        if !next() {
-            return;
+        if !next(&rt, &mut input)? {
+            return Ok(());
         }
         left -= 1;
     }
+    Ok(())
 }

@@ -1,14 +1,14 @@
-// How words and doubles are printed.
-use libc::STDOUT_FILENO;
+// How words and doubles are printed. An error is that of a write that failed.
+use std::io;
 use test_cases::print::put;
 
 // The sixteen hexadecimal digits of a double's bits. No number of a sheet is NaN.
-pub fn double(x: f64) {
+pub fn double(rt: &impl Print, x: f64) -> io::Result<()> {
     if x != x {
-        put(b"?");
-        return;
+        return put(rt, b"?");
     }
-    io::print_hex(STDOUT_FILENO, f64::to_bits(x), 16);
+    let bits = f64::to_bits(x);
+    print!(rt; "{bits:016x}")
 }
 
 // The last character of a word's code. 0 stands for none, and no word's code has it.
@@ -25,7 +25,7 @@ fn character(code: u64) -> u8 {
 }
 
 // A word, from its code alone.
-pub fn word(code: u64) {
+pub fn word(rt: &impl Print, code: u64) -> io::Result<()> {
     let mut text = [0u8; 12];
     let mut at: usize = 12;
     let mut rest = code;
@@ -37,5 +37,5 @@ pub fn word(code: u64) {
         text[at] = character(rest);
         rest = rest / 37;
     }
-    put(&text[at..]);
+    put(rt, &text[at..])
 }

@@ -1,27 +1,27 @@
-// An expression, printed as it is nested: each word from its code, each number as its double's bits.
+// An expression, printed as it is nested: each word from its code, each number as its double's bits. An error is that of a write that failed.
 use crate::text::{double, word};
 use sheets::reader::bytes::{WordRead, byte};
 use sheets::reader::expr::{Read, expr};
 use sheets::reader::lines::opening;
 use sheets::reader::num::DoubleRead;
+use std::io;
 use test_cases::print::put;
 
 // A word or a number.
-fn leaf(s: &[u8], at: usize) {
+fn leaf(rt: &impl Print, s: &[u8], at: usize) -> io::Result<()> {
     let w = sheets::reader::bytes::word(s, at);
     if let WordRead::Is(code, _) = w {
-        word(code);
-        return;
+        return word(rt, code);
     }
-    number(s, at);
+    number(rt, s, at)
 }
 
 // A number.
-fn number(s: &[u8], at: usize) {
+fn number(rt: &impl Print, s: &[u8], at: usize) -> io::Result<()> {
     let q = sheets::reader::num::double(s, at);
     match q {
-        DoubleRead::Is(x, _) => double(x),
-        DoubleRead::Not => put(b"?"),
+        DoubleRead::Is(x, _) => double(rt, x),
+        DoubleRead::Not => put(rt, b"?"),
     }
 }
 
@@ -36,33 +36,33 @@ fn after(s: &[u8], at: usize, depth: usize) -> usize {
 
 // The expression at a place, with at most `depth` brackets in each other.
 #[cycle(arguments_tree)]
-pub fn tree(s: &[u8], at: usize, depth: usize) {
+pub fn tree(rt: &impl Print, s: &[u8], at: usize, depth: usize) -> io::Result<()> {
     let k = opening(s, at);
     let WordRead::Is(code, n) = k else {
-        leaf(s, at);
-        return;
+        return leaf(rt, s, at);
     };
-    put(b"(");
-    word(code);
+    put(rt, b"(")?;
+    word(rt, code)?;
     if 0 < depth {
-        arguments(s, n, depth - 1);
+        arguments(rt, s, n, depth - 1)?;
     }
-    put(b")");
+    put(rt, b")")
 }
 
 // The arguments of a bracket, each after a space.
 #[cycle(arguments_tree)]
-fn arguments(s: &[u8], at: usize, depth: usize) {
+fn arguments(rt: &impl Print, s: &[u8], at: usize, depth: usize) -> io::Result<()> {
     let mut i = at;
     let mut left: usize = 5;
     while 0 < left {
         let b = byte(s, i);
         if b != b' ' {
-            return;
+            return Ok(());
         }
-        put(b" ");
-        tree(s, i + 1, depth);
+        put(rt, b" ")?;
+        tree(rt, s, i + 1, depth)?;
         i = after(s, i + 1, depth);
         left -= 1;
     }
+    Ok(())
 }
