@@ -1,9 +1,10 @@
 // The readings and the lengths that the digits of a case stand for.
-ghost use Rattle.std.specs.Prelude.{◌≤◌};
+ghost use Rattle.std.specs.Prelude.{◌≤◌, IfOk};
 
-use libc::STDIN_FILENO;
 use numbers::float::double;
-use test_cases::input::{size, words};
+use std::io;
+use std::io::Read;
+use test_cases::input::{read_full, size, words};
 
 // Readings. They are what a case says where ok.
 #[derive(Clone, Copy)]
@@ -37,16 +38,16 @@ pub fn readings(head: &[u8; 277]) -> Values {
     Values { ok: true, values }
 }
 
-// Reads a length, four digits and a space: 65536 where they are not that.
-fn read_length() -> usize {
+// Reads a length, four digits and a space: 65536 where they are not that. An error is that of a read that failed.
+fn read_length(input: &mut impl Read) -> io::Result<usize> {
     let mut digits = [0u8; 5];
-    io::read_full(STDIN_FILENO, &mut digits);
-    size(&digits)
+    read_full(input, &mut digits)?;
+    Ok(size(&digits))
 }
 
-// The lengths of a case by the byte behind its readings: a space where they are document 01's; a comma where they stand behind it, at most 256, 128 and 32,768.
-pub fn lengths(mark: u8) -> Lent
-    ensures { (result.kinds ≤ 256) × (result.readings ≤ 128) × (result.output ≤ 32768) }
+// The lengths of a case by the byte behind its readings: a space where they are document 01's; a comma where they stand behind it, at most 256, 128 and 32,768. An error is that of a read that failed.
+pub fn lengths(input: &mut impl Read, mark: u8) -> io::Result<Lent>
+    ensures { IfOk result (λ lent. (lent.kinds ≤ 256) × (lent.readings ≤ 128) × (lent.output ≤ 32768)) }
 {
     let right = Lent {
         ok: mark == b' ',
@@ -55,24 +56,24 @@ pub fn lengths(mark: u8) -> Lent
         output: 24576,
     };
     if mark != b',' {
-        return right;
+        return Ok(right);
     }
-    let kinds = read_length();
-    let readings = read_length();
-    let output = read_length();
+    let kinds = read_length(input)?;
+    let readings = read_length(input)?;
+    let output = read_length(input)?;
     if 256 < kinds {
-        return right;
+        return Ok(right);
     }
     if 128 < readings {
-        return right;
+        return Ok(right);
     }
     if 32768 < output {
-        return right;
+        return Ok(right);
     }
-    Lent {
+    Ok(Lent {
         ok: true,
         kinds,
         readings,
         output,
-    }
+    })
 }

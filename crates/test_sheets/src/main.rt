@@ -8,52 +8,55 @@
 mod cases;
 mod report;
 
-use libc::STDIN_FILENO;
-use test_cases::input::{read_bytes, size};
+use std::io;
+use std::io::Read;
+use test_cases::input::{read_bytes, read_full, size};
 use test_cases::print::put;
 
-// Reads what stands behind the head of a sheet, and prints the answers for it: whether all is of the form.
-fn answered(head: &[u8; 277]) -> bool {
+// Reads what stands behind the head of a sheet, and prints the answers for it: whether all is of the form. An error is that of a read or a write that failed.
+fn answered(rt: &impl Print, input: &mut impl Read, head: &[u8; 277]) -> io::Result<bool> {
     let given = cases::readings(head);
     if !given.ok {
-        return false;
+        return Ok(false);
     }
     let readings = given.values;
-    let lent = cases::lengths(head[276]);
+    let lent = cases::lengths(input, head[276])?;
     if !lent.ok {
-        return false;
+        return Ok(false);
     }
     let mut sheet = [0u8; 16385];
-    let decoded = read_bytes(&mut sheet, size(head));
+    let decoded = read_bytes(input, &mut sheet, size(head))?;
     if !decoded.ok {
-        return false;
+        return Ok(false);
     }
     let count = decoded.count;
-    report::sheet(&sheet[..count], &readings, lent);
-    true
+    report::sheet(rt, &sheet[..count], &readings, lent)?;
+    Ok(true)
 }
 
-// Reads one sheet and prints the answers for it: whether to go on.
-fn next() -> bool {
+// Reads one sheet and prints the answers for it: whether to go on. An error is that of a read or a write that failed.
+fn next(rt: &impl Print, input: &mut impl Read) -> io::Result<bool> {
     let mut head = [0u8; 277];
-    let got = io::read_full(STDIN_FILENO, &mut head);
+    let got = read_full(input, &mut head)?;
     if got == 0 {
-        return false;
+        return Ok(false);
     }
-    let fine = answered(&head);
+    let fine = answered(rt, input, &head)?;
     if !fine {
-        put(b"?\n");
+        put(rt, b"?\n")?;
     }
-    fine
+    Ok(fine)
 }
 
 // Nothing says that the input ends, so the sheets are counted down, from a number that no run uses up.
-fn main() {
+fn main(rt: HostRuntime) -> io::Result<()> {
+    let mut input = rt.stdin();
     let mut left = u64::MAX;
     while 0 < left {
-        if !next() {
-            return;
+        if !next(&rt, &mut input)? {
+            return Ok(());
         }
         left -= 1;
     }
+    Ok(())
 }

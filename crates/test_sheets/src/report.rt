@@ -1,16 +1,18 @@
 // What the check and the run answer for a sheet, and what they leave in their buffers.
 // Both buffers are the first bytes of larger ones full of 200, which is no kind code and no byte of a text: what still holds it was not written.
+// An error is that of a write that failed.
 ghost use Rattle.std.specs.Prelude.{◌≡◌, ◌≤◌, length};
-ghost use Rattle.io.specs.Counts.{IsPrefixLen};
+ghost use Rattle.std.specs.Counts.{IsPrefixLen};
 
 use crate::cases::Lent;
 use sheets::check::check;
 use sheets::run::run;
+use std::io;
 use test_cases::print::{decimal, put};
 
 // A number of one byte.
-fn small(n: u8) {
-    decimal(n as usize);
+fn small(rt: &impl Print, n: u8) -> io::Result<()> {
+    decimal(rt, n as usize)
 }
 
 // How many bytes were written before the first that was not.
@@ -40,66 +42,68 @@ fn untouched(s: &[u8], from: usize) -> bool {
 }
 
 // The kind codes that were written, and `?` if they do not stand at the start.
-fn codes(kinds: &[u8]) {
+fn codes(rt: &impl Print, kinds: &[u8]) -> io::Result<()> {
     let n = written(kinds);
     let mut i: usize = 0;
     while i < n {
-        put(b" ");
-        small(kinds[i]);
+        put(rt, b" ")?;
+        small(rt, kinds[i])?;
         i += 1;
     }
     if !untouched(kinds, n) {
-        put(b" ?");
+        put(rt, b" ?")?;
     }
+    Ok(())
 }
 
 // The text that was written, and `?` if it does not stand at the start or the answer counts it wrong.
-fn text(out: &[u8], count: usize) {
+fn text(rt: &impl Print, out: &[u8], count: usize) -> io::Result<()> {
     let n = written(out);
-    put(&out[..n]);
+    put(rt, &out[..n])?;
     if n != count {
-        put(b"?\n");
+        put(rt, b"?\n")?;
     }
     if !untouched(out, n) {
-        put(b"?\n");
+        put(rt, b"?\n")?;
     }
+    Ok(())
 }
 
 // `check`, the number, the line and the kind codes, where so many bytes of the buffer are lent.
-fn checked(s: &[u8], kinds: &mut [u8], lent: usize)
+fn checked(rt: &impl Print, s: &[u8], kinds: &mut [u8], lent: usize) -> io::Result<()>
     requires { IsPrefixLen lent kinds.old }
 {
     let a = check(s, &mut kinds[..lent]);
-    put(b"check ");
-    small(a.number);
-    put(b" ");
-    decimal(a.line);
-    codes(kinds);
-    put(b"\n");
+    put(rt, b"check ")?;
+    small(rt, a.number)?;
+    put(rt, b" ")?;
+    decimal(rt, a.line)?;
+    codes(rt, kinds)?;
+    put(rt, b"\n")
 }
 
 // `run`, the number, the line and the count of bytes, and on the next lines the text, where so many bytes of the buffer are lent.
-fn ran(s: &[u8], readings: &[f64], out: &mut [u8], lent: usize)
+fn ran(rt: &impl Print, s: &[u8], readings: &[f64], out: &mut [u8], lent: usize) -> io::Result<()>
     requires { IsPrefixLen lent out.old }
 {
     let a = run(s, readings, &mut out[..lent]);
-    put(b"run ");
-    small(a.number);
-    put(b" ");
-    decimal(a.line);
-    put(b" ");
-    decimal(a.written);
-    put(b"\n");
-    text(out, a.written);
+    put(rt, b"run ")?;
+    small(rt, a.number)?;
+    put(rt, b" ")?;
+    decimal(rt, a.line)?;
+    put(rt, b" ")?;
+    decimal(rt, a.written)?;
+    put(rt, b"\n")?;
+    text(rt, out, a.written)
 }
 
 // The answers for a sheet where this much is lent.
-pub fn sheet(s: &[u8], readings: &[f64], lent: Lent)
+pub fn sheet(rt: &impl Print, s: &[u8], readings: &[f64], lent: Lent) -> io::Result<()>
     requires { (lent.kinds ≤ 256) × (lent.readings ≤ 128) × (lent.output ≤ 32768) × (length readings.now ≡ 128) }
 {
     let mut kinds = [200u8; 256];
-    checked(s, &mut kinds, lent.kinds);
+    checked(rt, s, &mut kinds, lent.kinds)?;
     let mut out = [200u8; 32768];
     let n = lent.readings;
-    ran(s, &readings[..n], &mut out, lent.output);
+    ran(rt, s, &readings[..n], &mut out, lent.output)
 }
