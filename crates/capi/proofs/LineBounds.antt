@@ -96,6 +96,7 @@ tells-line : (q : Ran) → Ended 97 q → (out out' : List ℕ) (a : RunAnswer) 
 unfolding Ended
 tells-line (done fs s) h out out' a (e, o) = rw e (omega arith)
 tells-line (stopped fs r i s) h out out' a (e, o) = rw e h
+tells-line (stuck fs i s) h out out' a u = elim u [ ]
 
 run_of : (v : Verdict) (rs : List Float) → Settled v → (out out' : List ℕ) (a : RunAnswer) → RunOf v rs out a out' → a.line ≤ 97
 unfolding Settled machine
