@@ -1,3 +1,4 @@
+pub mod Counting
 pub mod ArgumentSteps
 pub mod ReadingSteps
 pub mod MessageSteps

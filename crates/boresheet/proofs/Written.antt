@@ -3,8 +3,8 @@ use Prim.Native.Nat.{ℕ}
 use native.Mathlib.Omega.{arith}
 use mathlib.Core.List.{List}
 use lib.Ieee.{Float}
-use Rattle.io.specs.Counts.{IsPrefixLen}
-use Rattle.io.proofs.Counting.{prefix_len_of_le}
+use Rattle.boresheet.specs.Counts.{IsPrefixLen}
+use Rattle.boresheet.proofs.Counting.{prefix_len_of_le}
 use Rattle.sheets.specs.declared.answers.RunAnswer.{RunAnswer}
 use Rattle.sheets.specs.Answers.{RunOwes}
 use Rattle.sheets.proofs.ConfinedHolds.{output_confined}

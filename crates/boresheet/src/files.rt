@@ -1,54 +1,56 @@
-// Reading all that a descriptor gives, as far as a buffer holds it.
+// Reading all that a reader gives, as far as a buffer holds it.
 ghost use Rattle.std.specs.Prelude.{◌≤◌, length};
-ghost use Rattle.io.specs.Counts.{IsPrefixLen};
+ghost use Rattle.boresheet.specs.Counts.{IsPrefixLen};
 
-// How many bytes were read, and whether a read failed; errno then says why.
+use std::io;
+use std::io::Read;
+
+// How many bytes were read, and why a read failed if one did.
 #[derive(Clone, Copy)]
 pub struct Filled {
     pub count: usize,
-    pub failed: bool,
+    pub failed: Option<io::Error>,
 }
 
 // One read; no bytes at the end of the input.
-fn read_some(fd: i32, buf: &mut [u8]) -> Filled
+fn read_some<R: Read>(from: &mut R, buf: &mut [u8]) -> Filled
     ensures { result.count ≤ length buf.old }
 {
-    let got = libc::read(fd, buf);
-    if got < 0 {
-        return Filled {
+    match from.read(buf) {
+        Ok(count) => Filled {
+            count,
+            failed: None,
+        },
+        Err(e) => Filled {
             count: 0,
-            failed: true,
-        };
-    }
-    Filled {
-        count: io::count(got, buf),
-        failed: false,
+            failed: Some(e),
+        },
     }
 }
 
 // Reads until the buffer is full, the input ends or a read fails.
-pub fn fill(fd: i32, buf: &mut [u8]) -> Filled
+pub fn fill<R: Read>(from: &mut R, buf: &mut [u8]) -> Filled
     ensures { IsPrefixLen result.count buf.new }
 {
     let mut done: usize = 0;
     while done < buf.len() {
-        let f = read_some(fd, &mut buf[done..]);
-        if f.failed {
+        let f = read_some(from, &mut buf[done..]);
+        if f.failed.is_some() {
             return Filled {
                 count: done,
-                failed: true,
+                failed: f.failed,
             };
         }
         if f.count == 0 {
             return Filled {
                 count: done,
-                failed: false,
+                failed: None,
             };
         }
         done += f.count;
     }
     Filled {
         count: done,
-        failed: false,
+        failed: None,
     }
 }

@@ -1,7 +1,9 @@
 // Checks and runs the bore sheet on standard input, and writes its text on standard output. A refusal is one line on standard error.
 // An argument names a file of the sixteen readings; without it they are all 0.
-// A Rattle program has no exit status: the line on standard error is what tells a refusal.
+// The exit status is always 0: the line on standard error is what tells a refusal.
 #![tactic(auto)]
+
+ghost use Rattle.boresheet.specs.Counts.{IsPrefixLen};
 
 mod files;
 mod hex;
@@ -9,95 +11,130 @@ mod messages;
 mod readings;
 mod reports;
 
-use files::fill;
-use libc::{STDERR_FILENO, STDIN_FILENO, STDOUT_FILENO};
+use files::{Filled, fill};
 use readings::{Found, readings_of};
 use sheets::run::run;
+use std::env::FillError;
+use std::fs::File;
+use std::rt::Env;
+use std::{io, str};
+
+// The C library's numbers of an invalid argument and of a name that is too long.
+const EINVAL: i32 = 22;
+
+const ENAMETOOLONG: i32 = 36;
 
 // Runs a sheet, and writes its text and then its refusal.
-fn run_sheet(sheet: &[u8], values: &[f64; 16]) {
+fn run_sheet(rt: &HostRuntime, sheet: &[u8], values: &[f64; 16]) {
     let mut out = [0u8; 24576];
     let a = run(sheet, values, &mut out);
     let n = a.written;
-    let is_written = io::write_all(STDOUT_FILENO, &out[..n]);
-    if !is_written {
-        reports::fail(b"standard output");
+    if let Err(e) = rt.stdout().write_all(&out[..n]) {
+        reports::fail(rt, b"standard output", e);
     }
     if a.number != 0 {
-        reports::refusal(a.number, a.line);
+        reports::refusal(rt, a.number, a.line);
     }
 }
 
 // Reads the sheet, up to one byte more than a sheet may have, and runs it.
-fn run_input(values: &[f64; 16]) {
+fn run_input(rt: &HostRuntime, values: &[f64; 16]) {
     let mut sheet = [0u8; 16385];
-    let f = fill(STDIN_FILENO, &mut sheet);
-    if f.failed {
-        reports::fail(b"standard input");
+    let f = fill(&mut rt.stdin(), &mut sheet);
+    if let Some(e) = f.failed {
+        reports::fail(rt, b"standard input", e);
         return;
     }
     let n = f.count;
-    run_sheet(&sheet[..n], values);
+    run_sheet(rt, &sheet[..n], values);
 }
 
 // Runs the sheet over the readings of a file. No file of the form is longer than 288 bytes.
-fn run_with(file: &[u8]) {
+fn run_with(rt: &HostRuntime, file: &[u8]) {
     let r = readings_of(file);
     let found = r.found;
     match found {
         Found::All => {
             let values = r.values;
-            run_input(&values);
+            run_input(rt, &values);
         }
-        Found::Bad(line) => reports::bad_line(line),
-        Found::Short(lines) => reports::too_short(lines),
-        Found::Long => reports::too_long(),
+        Found::Bad(line) => reports::bad_line(rt, line),
+        Found::Short(lines) => reports::too_short(rt, lines),
+        Found::Long => reports::too_long(rt),
+    }
+}
+
+// Opens a file for reading. A name that is no UTF-8 opens none.
+fn open(rt: &HostRuntime, name: &[u8]) -> io::Result<File> {
+    match str::from_utf8(name) {
+        Ok(path) => File::open(rt, path),
+        Err(_) => Err(io::Error::from(io::ErrorKind::InvalidFilename)),
+    }
+}
+
+// Reads the start of the file of this name, as far as a buffer holds it.
+fn read_file(rt: &HostRuntime, name: &[u8], buf: &mut [u8]) -> Filled
+    ensures { IsPrefixLen result.count buf.new }
+{
+    match open(rt, name) {
+        Ok(mut file) => fill(&mut file, buf),
+        Err(e) => Filled {
+            count: 0,
+            failed: Some(e),
+        },
     }
 }
 
 // Reads the file of readings of this name.
-fn run_file(name: &[u8]) {
-    let fd = os::open_read(name);
-    if fd < 0 {
-        reports::fail(name);
-        return;
-    }
+fn run_file(rt: &HostRuntime, name: &[u8]) {
     let mut file = [0u8; 512];
-    let f = fill(fd, &mut file);
-    if f.failed {
-        reports::fail(name);
-        libc::close(fd);
+    let f = read_file(rt, name, &mut file);
+    if let Some(e) = f.failed {
+        reports::fail(rt, name, e);
         return;
     }
-    libc::close(fd);
     let n = f.count;
-    run_with(&file[..n]);
+    run_with(rt, &file[..n]);
+}
+
+// Why an argument was not read.
+fn argument_error(e: FillError) -> io::Error {
+    match e {
+        FillError::NotPresent => io::Error::from_raw_os_error(EINVAL),
+        FillError::TooLong => io::Error::from_raw_os_error(ENAMETOOLONG),
+    }
 }
 
 // By the one argument: the help, or a file's name.
-fn run_argument() {
-    let mut name = io::buffer();
-    let n = os::arg(1, &mut name);
-    if os::errno() != 0 {
-        reports::fail(b"argument");
-        return;
-    }
+fn run_argument(rt: &HostRuntime) {
+    let mut name = [0u8; 4096];
+    let n = match rt.arg(1, &mut name) {
+        Ok(n) => n,
+        Err(e) => {
+            reports::fail(rt, b"argument", argument_error(e));
+            return;
+        }
+    };
     if reports::asks_help(&name[..n]) {
-        reports::usage(STDOUT_FILENO);
+        reports::usage(&rt.stdout());
         return;
     }
-    run_file(&name[..n]);
+    run_file(rt, &name[..n]);
 }
 
-fn main() {
-    let count = os::arg_count();
-    if count < 2 {
-        run_input(&[0.0; 16]);
+// Whether the program was started with an argument of this number.
+fn is_given(rt: &HostRuntime, i: usize) -> bool {
+    !matches!(rt.arg(i, &mut []), Err(FillError::NotPresent))
+}
+
+fn main(rt: HostRuntime) {
+    if !is_given(&rt, 1) {
+        run_input(&rt, &[0.0; 16]);
         return;
     }
-    if 2 < count {
-        reports::usage(STDERR_FILENO);
+    if is_given(&rt, 2) {
+        reports::usage(&rt.stderr());
         return;
     }
-    run_argument();
+    run_argument(&rt);
 }

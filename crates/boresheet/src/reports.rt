@@ -1,48 +1,62 @@
 // What the program writes besides the text of a sheet.
 ghost use Rattle.std.specs.Prelude.{◌≡◌};
-ghost use Rattle.io.specs.Counts.{IsPrefixLen};
+ghost use Rattle.boresheet.specs.Counts.{IsPrefixLen};
 ghost use Rattle.sheets.specs.Lookup.{same_word};
 ghost use Rattle.boresheet.specs.Arguments.{asks_help};
 
 use crate::messages;
 use crate::messages::Text;
-use libc::STDERR_FILENO;
+use std::fmt::InlineText;
+use std::io;
 
-fn put(text: &[u8]) {
-    io::write_all(STDERR_FILENO, text);
+// Writes a text on standard error. That this failed could be told nowhere.
+fn put(rt: &HostRuntime, text: &[u8]) {
+    let _ = rt.stderr().write_all(text);
+}
+
+// The text of an error without the number that may stand behind it.
+fn reason(said: &str) -> &str {
+    match said.split_once(" (os error ") {
+        Some((text, _)) => text,
+        None => said,
+    }
 }
 
 // A call that failed: on what, and why.
-pub fn fail(what: &[u8]) {
-    put(b"boresheet: ");
-    os::fail(what);
+pub fn fail(rt: &HostRuntime, what: &[u8], why: io::Error) {
+    let said = InlineText::<128>::of(why);
+    put(rt, b"boresheet: ");
+    put(rt, what);
+    put(rt, b": ");
+    put(rt, reason(said.as_str()).as_bytes());
+    put(rt, b"\n");
 }
 
 // A line that was made.
-fn put_line(t: Text)
+fn put_line(rt: &HostRuntime, t: Text)
     requires { IsPrefixLen t.size t.bytes }
 {
     let bytes = t.bytes;
     let n = t.size;
-    put(&bytes[..n]);
+    put(rt, &bytes[..n]);
 }
 
 // A refusal of the run.
-pub fn refusal(number: u8, line: usize) {
-    put_line(messages::refusal(number, line));
+pub fn refusal(rt: &HostRuntime, number: u8, line: usize) {
+    put_line(rt, messages::refusal(number, line));
 }
 
 // The file of readings has a line that is none.
-pub fn bad_line(line: usize) {
-    put_line(messages::bad_line(line));
+pub fn bad_line(rt: &HostRuntime, line: usize) {
+    put_line(rt, messages::bad_line(line));
 }
 
-pub fn too_short(lines: usize) {
-    put_line(messages::too_short(lines));
+pub fn too_short(rt: &HostRuntime, lines: usize) {
+    put_line(rt, messages::too_short(lines));
 }
 
-pub fn too_long() {
-    put(b"boresheet: readings: there are more than 16 lines\n");
+pub fn too_long(rt: &HostRuntime) {
+    put(rt, b"boresheet: readings: there are more than 16 lines\n");
 }
 
 // Whether two words are the same.
@@ -72,29 +86,29 @@ pub fn asks_help(word: &[u8]) -> bool
     is_same(word, b"--help")
 }
 
-fn write_line(fd: i32, text: &[u8]) {
-    io::write_all(fd, text);
-    io::write_all(fd, b"\n");
+fn write_line<P: Print>(to: &P, text: &[u8]) {
+    let _ = to.write_all(text);
+    let _ = to.write_all(b"\n");
 }
 
 // How the program is used.
-pub fn usage(fd: i32) {
-    write_line(fd, b"boresheet [READINGS] < SHEET");
+pub fn usage<P: Print>(to: &P) {
+    write_line(to, b"boresheet [READINGS] < SHEET");
     write_line(
-        fd,
+        to,
         b"Checks and runs the bore sheet on standard input; its text goes to standard output.",
     );
     write_line(
-        fd,
+        to,
         b"A refusal is a line on standard error, as boresheet: refusal 8 (centre) at line 4.",
     );
-    write_line(fd, b"The exit status says nothing.");
+    write_line(to, b"The exit status says nothing.");
     write_line(
-        fd,
+        to,
         b"READINGS is a file of 16 lines for r0 to r15, each ended by LF: a number as in a sheet,",
     );
     write_line(
-        fd,
+        to,
         b"or the 16 hexadecimal digits of a double. Without it all readings are 0.",
     );
 }
