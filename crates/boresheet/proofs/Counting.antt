@@ -1,7 +1,7 @@
 -- From a bound on a count to what the contracts and `&buf[..n]` ask. Assumes nothing.
 use Rattle.std.proofs.Common.{ℕ, ◌≤◌, List, length, sym}
 use lib.Seq.{length-take-le}
-use Rattle.boresheet.specs.Counts.{IsPrefixLen}
+use Rattle.std.specs.Counts.{IsPrefixLen}
 
 pub prefix_len_of_le : (n : ℕ) (xs : List ℕ) → n ≤ length xs → IsPrefixLen n xs
 prefix_len_of_le n xs h = (h, sym (length-take-le n xs h))

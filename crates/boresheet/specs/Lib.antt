@@ -1,5 +1,4 @@
 pub mod Arguments
-pub mod Counts
 pub mod Format
 pub mod Messages
 pub mod code

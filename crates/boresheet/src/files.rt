@@ -1,6 +1,6 @@
 // Reading all that a reader gives, as far as a buffer holds it.
 ghost use Rattle.std.specs.Prelude.{◌≤◌, length};
-ghost use Rattle.boresheet.specs.Counts.{IsPrefixLen};
+ghost use Rattle.std.specs.Counts.{IsPrefixLen};
 
 use std::io;
 use std::io::Read;

@@ -3,7 +3,7 @@
 // The exit status is always 0: the line on standard error is what tells a refusal.
 #![tactic(auto)]
 
-ghost use Rattle.boresheet.specs.Counts.{IsPrefixLen};
+ghost use Rattle.std.specs.Counts.{IsPrefixLen};
 
 mod files;
 mod hex;

@@ -1,6 +1,6 @@
 // The lines on standard error that say a number, as bytes.
 ghost use Rattle.std.specs.Prelude.{◌≡◌, [], ◌∷◌, ◌++◌, ◌+◌, ◌%◌, ◌<◌, ◌≤◌, length, take};
-ghost use Rattle.boresheet.specs.Counts.{IsPrefixLen};
+ghost use Rattle.std.specs.Counts.{IsPrefixLen};
 ghost use Rattle.sheets.specs.code.run.Writing.{Written};
 ghost use Rattle.boresheet.specs.Messages.{decimal, refusal_name, place_text, refusal_line, bad_line_text, short_text};
 

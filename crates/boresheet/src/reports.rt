@@ -1,6 +1,6 @@
 // What the program writes besides the text of a sheet.
 ghost use Rattle.std.specs.Prelude.{◌≡◌};
-ghost use Rattle.boresheet.specs.Counts.{IsPrefixLen};
+ghost use Rattle.std.specs.Counts.{IsPrefixLen};
 ghost use Rattle.sheets.specs.Lookup.{same_word};
 ghost use Rattle.boresheet.specs.Arguments.{asks_help};
 

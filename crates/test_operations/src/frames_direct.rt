@@ -34,8 +34,7 @@ fn geodetic(x: f64, y: f64, z: f64, height: f64) -> GeodeticPosition
 }
 
 // The ellipsoid's four fields, then the n-vector and the height.
-#[unsafe(no_mangle)]
-pub extern "C" fn frames_to_geocentric(
+pub fn frames_to_geocentric(
     a: f64,
     b: f64,
     e: f64,
@@ -53,8 +52,7 @@ pub extern "C" fn frames_to_geocentric(
 }
 
 // The ellipsoid's four fields, then the coordinates.
-#[unsafe(no_mangle)]
-pub extern "C" fn frames_to_geodetic(
+pub fn frames_to_geodetic(
     a: f64,
     b: f64,
     e: f64,
@@ -73,8 +71,7 @@ pub extern "C" fn frames_to_geodetic(
 }
 
 // The ellipsoid's four fields, then the n-vector and the height. Out are origin, direction and inverse matrix.
-#[unsafe(no_mangle)]
-pub extern "C" fn frames_enu(
+pub fn frames_enu(
     a: f64,
     b: f64,
     e: f64,
@@ -105,8 +102,7 @@ fn entries(f: LocalFrame) -> [f64; 21]
 }
 
 // An east-north-up frame's origin, direction and inverse matrix, then the target's coordinates.
-#[unsafe(no_mangle)]
-pub extern "C" fn frames_vector_to(f: &[f64; 21], x: f64, y: f64, z: f64, out: &mut [f64; 3])
+pub fn frames_vector_to(f: &[f64; 21], x: f64, y: f64, z: f64, out: &mut [f64; 3])
     ensures { out.new ≡ Direct.components (local_vector_to (Direct.frame_of f.now) (geocentric_from_metres x y z)) }
 {
     let v = frame(*f).local_vector_to(GeocentricPosition::from_metres(x, y, z));
@@ -147,8 +143,7 @@ fn nine(f: [f64; 21], at: usize) -> Mat33
 }
 
 // Of a north-east-down vector.
-#[unsafe(no_mangle)]
-pub extern "C" fn frames_bearing(x: f64, y: f64, z: f64) -> f64
+pub fn frames_bearing(x: f64, y: f64, z: f64) -> f64
     ensures { result ≡ (Vectors.bearing (Vectors.local_from_metres Ned x y z)).0 }
 {
     let v = LocalVector::from_metres(Orientation::Ned, x, y, z);
@@ -156,8 +151,7 @@ pub extern "C" fn frames_bearing(x: f64, y: f64, z: f64) -> f64
 }
 
 // Of an east-north-up vector.
-#[unsafe(no_mangle)]
-pub extern "C" fn frames_elevation(x: f64, y: f64, z: f64) -> f64
+pub fn frames_elevation(x: f64, y: f64, z: f64) -> f64
     ensures { result ≡ (Vectors.elevation (Vectors.local_from_metres Enu x y z)).0 }
 {
     let v = LocalVector::from_metres(Orientation::Enu, x, y, z);

@@ -30,15 +30,13 @@ ghost use Rattle.test_operations.specs.FramesTable as FramesTable;
 
 // The functions for C. The words of an operation's answer, then zeros. All zeros where there is no such operation.
 
-#[unsafe(no_mangle)]
-pub extern "C" fn numbers_apply(op: u64, inputs: &[u64; 32], outputs: &mut [u64; 24])
+pub fn numbers_apply(op: u64, inputs: &[u64; 32], outputs: &mut [u64; 24])
     ensures { outputs.new ≡ padded (answered NumbersTable.table op inputs.now) }
 {
     *outputs = numbers_floats::floats(op, *inputs);
 }
 
-#[unsafe(no_mangle)]
-pub extern "C" fn frames_apply(op: u64, inputs: &[u64; 32], outputs: &mut [u64; 24])
+pub fn frames_apply(op: u64, inputs: &[u64; 32], outputs: &mut [u64; 24])
     ensures { outputs.new ≡ padded (answered FramesTable.table op inputs.now) }
 {
     *outputs = frames_positions::positions(op, *inputs);
