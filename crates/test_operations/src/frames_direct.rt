@@ -1,4 +1,4 @@
-// Functions of `frames` for C that the bench calls, numbers in and numbers out.
+// Functions of `frames` that the bench calls, numbers in and numbers out; test_operations_c hands them to C.
 ghost use Rattle.std.specs.Prelude.{◌≤◌, ◌≡◌};
 ghost use Rattle.frames.specs.Positions.{geocentric_from_metres};
 ghost use Rattle.frames.specs.Ellipsoids.{geodetic_to_geocentric, geocentric_to_geodetic};

@@ -28,7 +28,7 @@ ghost use Rattle.test_operations.specs.Rows.{answered};
 ghost use Rattle.test_operations.specs.NumbersTable as NumbersTable;
 ghost use Rattle.test_operations.specs.FramesTable as FramesTable;
 
-// The functions for C. The words of an operation's answer, then zeros. All zeros where there is no such operation.
+// What test_operations_c hands to C. The words of an operation's answer, then zeros. All zeros where there is no such operation.
 
 pub fn numbers_apply(op: u64, inputs: &[u64; 32], outputs: &mut [u64; 24])
     ensures { outputs.new ≡ padded (answered NumbersTable.table op inputs.now) }

@@ -1,4 +1,4 @@
-// Functions of `numbers` for C that the bench calls, numbers in and numbers out.
+// Functions of `numbers` that the bench calls, numbers in and numbers out; test_operations_c hands them to C.
 ghost use Rattle.std.specs.Prelude.{◌≡◌};
 ghost use Rattle.numbers.specs.Floats as Floats;
 ghost use Rattle.numbers.specs.Angles.{angle, normalised_to};

@@ -1,5 +1,5 @@
 // The lines that are read whole: what each writes, and what is kept of it.
-// The sum of the lengths shown is lent by its metres: a `&mut` to a struct is not covered by the proof rules.
+// The sum of the lengths shown is lent by its metres, the one number that a line adds to.
 ghost use Rattle.std.specs.Prelude.{◌≡◌, ◌≤◌};
 ghost use Rattle.std.proofs.Math.Option.{some};
 ghost use Rattle.sheets.specs.Letters.{𝐥, 𝐠, held};
@@ -18,7 +18,7 @@ use crate::run::text::{output_line, total_line};
 use crate::{Evaluated, Value};
 use numbers::Length;
 
-// The code of a show's word; of another line it does not matter. The slot at the word's place is looked up by the caller, which holds the table: it cannot be lent.
+// The code of a show's word; of another line it does not matter. The slot at the word's place is looked up by the caller, which holds the table.
 pub fn named(line: WholeLine) -> u64
     ensures { Names line result }
 {
