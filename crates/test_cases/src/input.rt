@@ -164,7 +164,8 @@ fn decode(digits: &[u8; 65536], sheet: &mut [u8], count: usize) -> bool
 
 // Reads until `buf` is full or the input ends: how many bytes stand at the start of `buf`. An error is that of a read that failed; what came before it may stand in `buf`.
 pub fn read_full(input: &mut impl Read, buf: &mut [u8]) -> io::Result<usize>
-    ensures { IfOk result (λ n. IsPrefixLen n buf.new) }
+    ensures ok { IfOk result (λ n. IsPrefixLen n buf.new) }
+    ensures err { OnErr result (length buf.new ≡ length buf.old) }
 {
     let mut done: usize = 0;
     while done < buf.len() {

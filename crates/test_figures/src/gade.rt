@@ -15,12 +15,12 @@ pub fn example_1(rt: &impl Print) -> io::Result<()> {
     let a = geodetic(1.0, 2.0, -3.0);
     let b = earth.geodetic_to_geocentric_position(geodetic(4.0, 5.0, -6.0));
     let v = LocalFrame::ned_from_geodetic(a, earth).local_vector_to(b);
-    figure(rt, "Gade 1 north 331730.23 m", v.x.0, 331730.23, 0.005)?;
-    figure(rt, "Gade 1 east 332997.87 m", v.y.0, 332997.87, 0.005)?;
-    figure(rt, "Gade 1 down 17404.27 m", v.z.0, 17404.27, 0.005)?;
+    figure(rt, b"Gade 1 north 331730.23 m", v.x.0, 331730.23, 0.005)?;
+    figure(rt, b"Gade 1 east 332997.87 m", v.y.0, 332997.87, 0.005)?;
+    figure(rt, b"Gade 1 down 17404.27 m", v.z.0, 17404.27, 0.005)?;
     figure(
         rt,
-        "Gade 1 azimuth 45.11 degrees",
+        b"Gade 1 azimuth 45.11 degrees",
         v.bearing().as_degrees(),
         45.11,
         0.005,
@@ -41,19 +41,19 @@ pub fn example_2(rt: &impl Print) -> io::Result<()> {
     let ll = LatLong::from_nvector(c.hp);
     figure(
         rt,
-        "Gade 2 latitude 53.33 degrees",
+        b"Gade 2 latitude 53.33 degrees",
         ll.latitude.as_degrees(),
         53.33,
         0.005,
     )?;
     figure(
         rt,
-        "Gade 2 longitude 63.47 degrees",
+        b"Gade 2 longitude 63.47 degrees",
         ll.longitude.as_degrees(),
         63.47,
         0.005,
     )?;
-    figure(rt, "Gade 2 height 406.01 m", c.height.0, 406.01, 0.005)
+    figure(rt, b"Gade 2 height 406.01 m", c.height.0, 406.01, 0.005)
 }
 
 // Geocentric to geodetic.
@@ -64,21 +64,21 @@ pub fn example_3(rt: &impl Print) -> io::Result<()> {
     let ll = LatLong::from_nvector(d.hp);
     figure(
         rt,
-        "Gade 3 latitude 39.38 degrees",
+        b"Gade 3 latitude 39.38 degrees",
         ll.latitude.as_degrees(),
         39.38,
         0.005,
     )?;
     figure(
         rt,
-        "Gade 3 longitude -48.01 degrees",
+        b"Gade 3 longitude -48.01 degrees",
         ll.longitude.as_degrees(),
         -48.01,
         0.005,
     )?;
     figure(
         rt,
-        "Gade 3 height 4702059.83 m",
+        b"Gade 3 height 4702059.83 m",
         d.height.0,
         4702059.83,
         0.005,
@@ -89,7 +89,7 @@ pub fn example_3(rt: &impl Print) -> io::Result<()> {
 pub fn example_4(rt: &impl Print) -> io::Result<()> {
     let earth = Ellipsoid::wgs84();
     let p = earth.geodetic_to_geocentric_position(geodetic(1.0, 2.0, 3.0));
-    figure(rt, "Gade 4 x 6373290.277 m", p.x.0, 6373290.277, 0.0005)?;
-    figure(rt, "Gade 4 y 222560.201 m", p.y.0, 222560.201, 0.0005)?;
-    figure(rt, "Gade 4 z 110568.827 m", p.z.0, 110568.827, 0.0005)
+    figure(rt, b"Gade 4 x 6373290.277 m", p.x.0, 6373290.277, 0.0005)?;
+    figure(rt, b"Gade 4 y 222560.201 m", p.y.0, 222560.201, 0.0005)?;
+    figure(rt, b"Gade 4 z 110568.827 m", p.z.0, 110568.827, 0.0005)
 }

@@ -10,7 +10,7 @@ pub fn radii(rt: &impl Print) -> io::Result<()> {
     let m = earth.meridian_radius(pole);
     figure(
         rt,
-        "TR8350.2 meridian_radius at 90: 6399593.6258 m",
+        b"TR8350.2 meridian_radius at 90: 6399593.6258 m",
         m.0,
         6399593.6258,
         0.00005,
@@ -18,14 +18,14 @@ pub fn radii(rt: &impl Print) -> io::Result<()> {
     let n = earth.prime_vertical_radius(pole);
     figure(
         rt,
-        "TR8350.2 prime_vertical_radius at 90: 6399593.6258 m",
+        b"TR8350.2 prime_vertical_radius at 90: 6399593.6258 m",
         n.0,
         6399593.6258,
         0.00005,
     )?;
     figure(
         rt,
-        "TR8350.2 mean_radius 6371008.7714 m",
+        b"TR8350.2 mean_radius 6371008.7714 m",
         earth.mean_radius().0,
         6371008.7714,
         0.00005,

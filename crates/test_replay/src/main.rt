@@ -5,7 +5,7 @@
 mod answers;
 mod tables;
 
-ghost use Rattle.std.specs.Prelude.{◌≤◌, length, IfOk};
+ghost use Rattle.std.specs.Prelude.{◌≡◌, ◌≤◌, length, IfOk, OnErr};
 
 use std::io;
 use std::io::Read;
@@ -21,7 +21,8 @@ fn respond(rt: &impl Print, s: &[u8]) -> io::Result<()> {
 // Answers each line that ends in the chunk. `held` has the n bytes of the line so far. Of a longer line it keeps as many as it can hold: no line of the form has so many. An error is that of a write that failed; lines before it are answered.
 fn feed(rt: &impl Print, chunk: &[u8], held: &mut [u8], n: usize) -> io::Result<usize>
     requires { n ≤ length held.old }
-    ensures { IfOk result (λ at. at ≤ length held.new) }
+    ensures ok { IfOk result (λ at. at ≤ length held.new) }
+    ensures err { OnErr result (length held.new ≡ length held.old) }
 {
     let mut at = n;
     let mut i: usize = 0;
@@ -51,7 +52,8 @@ struct Step {
 // Reads once, and answers the lines that end in what came. An error is that of a read or a write that failed.
 fn some(rt: &impl Print, input: &mut impl Read, held: &mut [u8], n: usize) -> io::Result<Step>
     requires { n ≤ length held.old }
-    ensures { IfOk result (λ step. step.n ≤ length held.new) }
+    ensures ok { IfOk result (λ step. step.n ≤ length held.new) }
+    ensures err { OnErr result (length held.new ≡ length held.old) }
 {
     let mut buffer = [0u8; 65536];
     let got = input.read(&mut buffer)?;

@@ -75,7 +75,7 @@ module _ {s : List ℕ} {e : Ellipsoid} {rs : List Float} {d : List ℕ} {h : St
       → (t : List ℕ) (from end : ℕ) → read_word t from ≡ got (entry_name a) end → TestedLine t from end (entry_value a) h.out h.written r out
       → (in_limit (entry_value a) ≡ true → FixesKept (fixes (st.entries ++ (a ∷ []))) now.lets shown h.floats h.n × (metres sum ≡ total (st.entries ++ (a ∷ [])))) → Comes-to l
   entry-comes l a k es ek t from end ew tested kept = record {
-    stays = λ n. let (er, eo, out_of_lem) = tested-not t from end (entry_value a) h.out h.written r out tested n in (met (entry_value a), k, es, er, eo);
+    stays = λ n. let (er, eo, rest) = tested-not t from end (entry_value a) h.out h.written r out tested n in (met (entry_value a), k, es, er, eo);
     goes_on = λ kind count er.
         let (em, inside, hw) = tested-is t from end (entry_value a) h.out h.written r out tested kind count er in
         let text = entry_lines st.entries in
