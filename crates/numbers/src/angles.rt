@@ -97,13 +97,11 @@ impl Neg for Angle {
 fn normalised_radians(radians: f64, max: f64) -> f64
     ensures { angle result ≡ normalised_to (angle radians) (angle max) }
 {
-    if radians > -max {
-        if radians < max {
-            return short_of(max, lifted(radians, max));
-        }
-        return wrapped(rem(radians, max), max);
+    if radians > -max && radians < max {
+        short_of(max, lifted(radians, max))
+    } else {
+        wrapped(rem(radians, max), max)
     }
-    wrapped(rem(radians, max), max)
 }
 
 // Moved up by max where it is below zero.

@@ -77,10 +77,8 @@ fn atan_unit(t: f64) -> f64
 fn atan_base(a: f64, b: f64) -> f64
     ensures { result ≡ atan_base a b }
 {
-    if a == 0.0 {
-        if b == 0.0 {
-            return 0.0;
-        }
+    if a == 0.0 && b == 0.0 {
+        return 0.0;
     }
     if a <= b {
         return atan_unit(a / b);
@@ -132,24 +130,18 @@ fn atan_told(a: f64, b: f64) -> f64
                 if t <= BREAK {
                     return atan_poly(t);
                 }
-            } else {
-                if t <= BREAK {} else {
-                    return atan_far(t);
-                }
+            } else if !(t <= BREAK) {
+                return atan_far(t);
             }
         }
-    } else {
-        if a <= b {} else {
-            let t = b / a;
-            if a < SIN_67 {
-                if t <= BREAK {} else {
-                    return PI / 2.0 - atan_far(t);
-                }
-            } else {
-                if t <= BREAK {
-                    return PI / 2.0 - atan_poly(t);
-                }
+    } else if !(a <= b) {
+        let t = b / a;
+        if a < SIN_67 {
+            if !(t <= BREAK) {
+                return PI / 2.0 - atan_far(t);
             }
+        } else if t <= BREAK {
+            return PI / 2.0 - atan_poly(t);
         }
     }
     atan_base(a, b)

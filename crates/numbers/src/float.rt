@@ -51,13 +51,7 @@ pub fn abs(x: f64) -> f64
 pub fn clamp_unit(x: f64) -> f64
     ensures { result ≡ clamp_unit x }
 {
-    if x < -1.0 {
-        return -1.0;
-    }
-    if x > 1.0 {
-        return 1.0;
-    }
-    x
+    x.clamp(-1.0, 1.0)
 }
 
 pub fn to_radians(x: f64) -> f64

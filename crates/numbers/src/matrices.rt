@@ -23,11 +23,7 @@ impl Mat33 {
     pub fn new(r0: Vec3, r1: Vec3, r2: Vec3) -> Self
         ensures { result ≡ mat r0 r1 r2 }
     {
-        Self {
-            r0: r0,
-            r1: r1,
-            r2: r2,
-        }
+        Mat33 { r0, r1, r2 }
     }
 
     pub fn row0(self) -> Vec3
@@ -77,12 +73,9 @@ impl Mul<Mat33> for Vec3 {
     ghost mul_gives = { λ v m r. r ≡ vec_mul_mat v m };
 
     fn mul(self, rhs: Mat33) -> Vec3 {
-        let r0 = rhs.r0;
-        let r1 = rhs.r1;
-        let r2 = rhs.r2;
-        let x = self.dot_prod(r0);
-        let y = self.dot_prod(r1);
-        let z = self.dot_prod(r2);
+        let x = self.dot_prod(rhs.r0);
+        let y = self.dot_prod(rhs.r1);
+        let z = self.dot_prod(rhs.r2);
         Vec3::new(x, y, z)
     }
 }

@@ -21,17 +21,11 @@ pub fn eq(left: f64, right: f64) -> bool
 pub fn lte(left: f64, right: f64) -> bool
     ensures { result ≡ near_or_below left right }
 {
-    if left <= right {
-        return true;
-    }
-    eq(left, right)
+    left <= right || eq(left, right)
 }
 
 pub fn gte(left: f64, right: f64) -> bool
     ensures { result ≡ near_or_above left right }
 {
-    if left >= right {
-        return true;
-    }
-    eq(left, right)
+    left >= right || eq(left, right)
 }

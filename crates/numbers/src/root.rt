@@ -46,17 +46,15 @@ fn by_digits(w: u64) -> Rooted
     let mut left = w;
     let mut rest: u64 = 0;
     let mut root: u64 = 0;
-    let mut i: u64 = 0;
-    while i < 53 {
+    for _ in 0..53u64 {
         rest = rest * 4 + left / TWO_52;
         left = left % TWO_52 * 4;
         let trial = root * 4 + 1;
-        root = root * 2;
+        root *= 2;
         if trial <= rest {
-            rest = rest - trial;
-            root = root + 1;
+            rest -= trial;
+            root += 1;
         }
-        i += 1;
     }
     Rooted { root, rest }
 }
@@ -69,8 +67,8 @@ fn lifted(v: u64, g: u64) -> Fours
     let mut w = v;
     let mut h = g;
     while w < TWO_52 {
-        w = w * 4;
-        h = h - 1;
+        w *= 4;
+        h -= 1;
     }
     Fours { w, g: h }
 }
@@ -244,14 +242,12 @@ pub fn sqrt(x: f64) -> f64
         return plain(x);
     }
     let b = f64::to_bits(x);
-    if b >= TWO_52 {
-        if b < INFINITY_BITS {
-            let s = near(b);
-            if is_root(b, s) {
-                return s;
-            }
-            return beside(x, b, s);
+    if b >= TWO_52 && b < INFINITY_BITS {
+        let s = near(b);
+        if is_root(b, s) {
+            return s;
         }
+        return beside(x, b, s);
     }
     plain(x)
 }

@@ -93,10 +93,8 @@ fn quarters(y: f64) -> Turned
     let k = candidate(y);
     let f = k as f64;
     let n = f - 64.0;
-    if y <= n {
-        if f - 65.0 < y {
-            return Turned { n, quarter: k % 4 };
-        }
+    if y <= n && f - 65.0 < y {
+        return Turned { n, quarter: k % 4 };
     }
     by_truncation(y)
 }
@@ -129,11 +127,9 @@ fn sine_on(x: f64, more: u64) -> f64
     requires { more ≤ 1 }
     ensures { result ≡ reduced (λ q. sin_by ((q + more) % 4)) x }
 {
-    if x >= -64.0 {
-        if x <= 64.0 {
-            let t = quarters(x * 0.6366197723675814 - 0.5);
-            return sin_by((t.quarter + more) % 4, left_over(x, t.n));
-        }
+    if x >= -64.0 && x <= 64.0 {
+        let t = quarters(x * 0.6366197723675814 - 0.5);
+        return sin_by((t.quarter + more) % 4, left_over(x, t.n));
     }
     0.0 / 0.0
 }

@@ -58,10 +58,8 @@ pub fn shifted(a: u64, k: u64, b: u64) -> u64
     ensures { result ≡ a * 2 ^ k % b }
 {
     let mut rest = a % b;
-    let mut left = k;
-    while left >= 11 {
+    for _ in 0..k / 11 {
         rest = rest * 2048 % b;
-        left -= 11;
     }
-    rest * power(left) % b
+    rest * power(k % 11) % b
 }

@@ -1,7 +1,7 @@
 // 3-element vectors: their constants, products and operators.
 ghost use Rattle.std.specs.Prelude.{◌≡◌};
 ghost use Rattle.numbers.specs.Vec as Vec;
-ghost use Rattle.numbers.specs.Vec.{vec, new_unit, cross_prod, cross_prod_unit, dot_prod, orthogonal_to, stable_cross_prod, stable_cross_prod_unit, squared_norm, vec_add, vec_sub, vec_mul, vec_div, vec_neg};
+ghost use Rattle.numbers.specs.Vec.{vec, raw, crossing, stably, axis_for, new_unit, cross_prod, cross_prod_unit, dot_prod, orthogonal_to, stable_cross_prod, stable_cross_prod_unit, squared_norm, vec_add, vec_sub, vec_mul, vec_div, vec_neg};
 
 use crate::Vec3;
 use crate::float::abs;
@@ -109,19 +109,15 @@ impl Vec3 {
     pub fn cross_prod(self, o: Self) -> Self
         ensures { result ≡ cross_prod self o }
     {
-        let x = self.y * o.z - self.z * o.y;
-        let y = self.z * o.x - self.x * o.z;
-        let z = self.x * o.y - self.y * o.x;
-        Vec3::new(x, y, z)
+        let c = crossed(self, o);
+        Vec3::new(c.x, c.y, c.z)
     }
 
     pub fn cross_prod_unit(self, o: Self) -> Self
         ensures { result ≡ cross_prod_unit self o }
     {
-        let x = self.y * o.z - self.z * o.y;
-        let y = self.z * o.x - self.x * o.z;
-        let z = self.x * o.y - self.y * o.x;
-        Vec3::new_unit(x, y, z)
+        let c = crossed(self, o);
+        Vec3::new_unit(c.x, c.y, c.z)
     }
 
     pub fn dot_prod(self, o: Self) -> f64
@@ -144,20 +140,7 @@ impl Vec3 {
     pub fn orthogonal(self) -> Self
         ensures { result ≡ Vec.orthogonal self }
     {
-        let ax = abs(self.x);
-        let ay = abs(self.y);
-        let az = abs(self.z);
-        if ax > ay {
-            if ax > az {
-                self.cross_prod_unit(Vec3::UNIT_Z)
-            } else {
-                self.cross_prod_unit(Vec3::UNIT_Y)
-            }
-        } else if ay > az {
-            self.cross_prod_unit(Vec3::UNIT_X)
-        } else {
-            self.cross_prod_unit(Vec3::UNIT_Y)
-        }
+        self.cross_prod_unit(axis_for(abs(self.x), abs(self.y), abs(self.z)))
     }
 
     pub fn norm(self) -> f64
@@ -169,37 +152,15 @@ impl Vec3 {
     pub fn stable_cross_prod_unit(self, o: Self) -> Self
         ensures { result ≡ stable_cross_prod_unit self o }
     {
-        let xa = o.x + self.x;
-        let ya = o.y + self.y;
-        let za = o.z + self.z;
-
-        let xb = o.x - self.x;
-        let yb = o.y - self.y;
-        let zb = o.z - self.z;
-
-        let x = ya * zb - za * yb;
-        let y = za * xb - xa * zb;
-        let z = xa * yb - ya * xb;
-
-        Vec3::new_unit(x, y, z)
+        let c = stably_crossed(self, o);
+        Vec3::new_unit(c.x, c.y, c.z)
     }
 
     pub fn stable_cross_prod(self, o: Self) -> Self
         ensures { result ≡ stable_cross_prod self o }
     {
-        let xa = o.x + self.x;
-        let ya = o.y + self.y;
-        let za = o.z + self.z;
-
-        let xb = o.x - self.x;
-        let yb = o.y - self.y;
-        let zb = o.z - self.z;
-
-        let x = ya * zb - za * yb;
-        let y = za * xb - xa * zb;
-        let z = xa * yb - ya * xb;
-
-        Vec3::new(x, y, z)
+        let c = stably_crossed(self, o);
+        Vec3::new(c.x, c.y, c.z)
     }
 
     pub fn squared_norm(self) -> f64
@@ -218,6 +179,47 @@ impl Vec3 {
             let s = 1.0 / n;
             self * s
         }
+    }
+}
+
+// The components of a cross product, as they are: `Vec3::new` and `Vec3::new_unit` make a vector of them.
+fn crossed(a: Vec3, b: Vec3) -> Vec3
+    ensures { result ≡ crossing raw a b }
+{
+    Vec3 {
+        x: a.y * b.z - a.z * b.y,
+        y: a.z * b.x - a.x * b.z,
+        z: a.x * b.y - a.y * b.x,
+    }
+}
+
+// The same of b + a and b - a.
+fn stably_crossed(a: Vec3, b: Vec3) -> Vec3
+    ensures { result ≡ stably raw a b }
+{
+    let sum = Vec3 {
+        x: b.x + a.x,
+        y: b.y + a.y,
+        z: b.z + a.z,
+    };
+    let difference = Vec3 {
+        x: b.x - a.x,
+        y: b.y - a.y,
+        z: b.z - a.z,
+    };
+    crossed(sum, difference)
+}
+
+// The axis that `orthogonal` takes, by the magnitudes of the components.
+fn axis_for(ax: f64, ay: f64, az: f64) -> Vec3
+    ensures { result ≡ axis_for ax ay az }
+{
+    if ax > ay {
+        if ax > az { Vec3::UNIT_Z } else { Vec3::UNIT_Y }
+    } else if ay > az {
+        Vec3::UNIT_X
+    } else {
+        Vec3::UNIT_Y
     }
 }
 

@@ -4,4 +4,4 @@ use Rattle.numbers.proofs.Vec3.cross_prod.Goals as goal
 
 pub returns : goal.returns
 unfolding cross_prod
-returns c = simp c.new.ensures
+returns c = simp (c.new.ensures, c.crossed-c.ensures)

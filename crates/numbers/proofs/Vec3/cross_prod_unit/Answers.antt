@@ -4,4 +4,4 @@ use Rattle.numbers.proofs.Vec3.cross_prod_unit.Goals as goal
 
 pub returns : goal.returns
 unfolding cross_prod_unit
-returns c = simp c.new_unit.ensures
+returns c = simp (c.new_unit.ensures, c.crossed-c.ensures)

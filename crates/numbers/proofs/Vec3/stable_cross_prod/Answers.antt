@@ -4,4 +4,4 @@ use Rattle.numbers.proofs.Vec3.stable_cross_prod.Goals as goal
 
 pub returns : goal.returns
 unfolding stable_cross_prod
-returns c = simp c.new.ensures
+returns c = simp (c.new.ensures, c.stably_crossed-c.ensures)

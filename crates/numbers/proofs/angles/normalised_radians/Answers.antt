@@ -5,6 +5,7 @@ use Rattle.numbers.specs.Ops.{num, pick}
 use Rattle.numbers.specs.Angles.{angle}
 use Rattle.numbers.proofs.AngleLaws.{lift, within, beyond, below-max}
 use Rattle.numbers.proofs.angles.normalised_radians.Goals as goal
+use Rattle.numbers.proofs.angles.normalised_radians.Goals.{else-radians-max-via-then-radians-max+else-radians-max-2, else-radians-max-via-else-radians-max}
 
 pub returns-then-radians-max-2 : goal.returns-then-radians-max-2
 returns-then-radians-max-2 c =
@@ -12,10 +13,10 @@ returns-then-radians-max-2 c =
     ap angle c.short_of.ensures ∙ ap (λ (x : Float). angle (pick (eq x max) (num 0) x)) c.lifted.ensures
     ∙ within _ _ (subst T (sym c.well_formed.0.1) tt) c.if-radians-max.true c.if-radians-max-2.true
 
-pub returns-then-radians-max : goal.returns-then-radians-max
-returns-then-radians-max c =
-    c.wrapped.ensures ∙ ap (λ (r : Float). lift r c.args.max) c.rem.ensures ∙ beyond _ _ c.if-radians-max-2.false
-
-pub returns : goal.returns
-returns c =
-    c.wrapped-2.ensures ∙ ap (λ (r : Float). lift r c.args.max) c.rem-2.ensures ∙ below-max _ _ c.if-radians-max.false
+pub returns-else-radians-max : goal.returns-else-radians-max
+returns-else-radians-max c =
+    c.wrapped.ensures ∙ ap (λ (r : Float). lift r c.args.max) c.rem.ensures
+    ∙ elim c.else-radians-max.branch [
+      | else-radians-max-via-then-radians-max+else-radians-max-2 w ↦ beyond _ _ w.if-radians-max-2.false
+      | else-radians-max-via-else-radians-max w ↦ below-max _ _ w.if-radians-max.false
+    ]

@@ -12,23 +12,23 @@ returns-then-t c =
     let h = c.if-a-b.true in
     simp (c.atan_poly.ensures, below-not-zeros x.a x.b h, lt-le x.a x.b h, c.if-t.true)
 
-pub returns-else-t-2 : goal.returns-else-t-2
+pub returns-then-not-t : goal.returns-then-not-t
 unfolding atan_base atan_unit decimal of_bits
-returns-else-t-2 c =
+returns-then-not-t c =
     let x = c.args in
     let h = c.if-a-b.true in
-    simp (c.atan_far.ensures, below-not-zeros x.a x.b h, lt-le x.a x.b h, c.if-t-2.false)
+    simp (c.atan_far.ensures, below-not-zeros x.a x.b h, lt-le x.a x.b h, c.if-not-t.true)
 
-pub returns-else-t-3 : goal.returns-else-t-3
+pub returns-then-not-t-2 : goal.returns-then-not-t-2
 unfolding atan_base atan_unit decimal of_bits
-returns-else-t-3 c =
+returns-then-not-t-2 c =
     let x = c.args in
-    let h = c.if-a-b-2.false in
-    simp (c.atan_far-else-t-3.ensures, above-not-zeros x.a x.b h, h, c.if-t-3.false)
+    let h = c.if-not-a-b.true in
+    simp (c.atan_far-then-not-t-2.ensures, above-not-zeros x.a x.b h, h, c.if-not-t-2.true)
 
-pub returns-then-t-4 : goal.returns-then-t-4
+pub returns-then-t-2 : goal.returns-then-t-2
 unfolding atan_base atan_unit decimal of_bits
-returns-then-t-4 c =
+returns-then-t-2 c =
     let x = c.args in
-    let h = c.if-a-b-2.false in
-    simp (c.atan_poly-then-t-4.ensures, above-not-zeros x.a x.b h, h, c.if-t-4.true)
+    let h = c.if-not-a-b.true in
+    simp (c.atan_poly-then-t-2.ensures, above-not-zeros x.a x.b h, h, c.if-t-2.true)

@@ -1,17 +1,23 @@
 -- `numbers::float::clamp_unit` meets its contract. Assumes nothing.
-use lib.Ieee.{of_bits}
-use Rattle.numbers.specs.Ops.{decimal}
+use Rattle.std.proofs.Common.{◌≡◌, Bool, true, false, cond, refl, ◌∙◌}
+use lib.Ieee as Ieee
+use lib.Ieee.{Float, of_bits}
+use Rattle.numbers.specs.Ops.{decimal, num, pick}
 use Rattle.numbers.specs.Floats.{clamp_unit}
 use Rattle.numbers.proofs.float.clamp_unit.Goals as goal
 
-pub returns-then-x : goal.returns-then-x
-unfolding of_bits decimal clamp_unit
-returns-then-x c = simp c.if-x.true
+-- the library's choice is that of the definitions
+chosen : (b d : Bool) (x y z : Float) → cond b x (cond d y z) ≡ pick b x (pick d y z)
+chosen true d x y z = refl
+chosen false true x y z = refl
+chosen false false x y z = refl
 
-pub returns-then-x-2 : goal.returns-then-x-2
-unfolding of_bits decimal clamp_unit
-returns-then-x-2 c = simp (c.if-x-2.true, c.if-x.false)
+pub clamp-requires : goal.clamp-requires
+unfolding of_bits Ieee.le Ieee.neg
+clamp-requires c = tt
 
 pub returns : goal.returns
 unfolding of_bits decimal clamp_unit
-returns c = simp (c.if-x-2.false, c.if-x.false)
+returns c =
+    let x = c.args.x in
+    c.clamp.ensures.value ∙ chosen (Ieee.lt x (Ieee.neg (num 1))) (Ieee.lt (num 1) x) (Ieee.neg (num 1)) (num 1) x

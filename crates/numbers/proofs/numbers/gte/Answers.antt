@@ -6,6 +6,6 @@ pub returns-then-left-right : goal.returns-then-left-right
 unfolding near_or_above
 returns-then-left-right c = simp c.if-left-right.true
 
-pub returns : goal.returns
+pub returns-else-left-right : goal.returns-else-left-right
 unfolding near_or_above
-returns c = simp (c.eq.ensures, c.if-left-right.false)
+returns-else-left-right c = simp (c.eq.ensures, c.if-left-right.false)

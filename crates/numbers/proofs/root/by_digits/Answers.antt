@@ -53,44 +53,38 @@ done w left rest root i v h =
       short = bound w left rest root i v;
     }
 
-pub loop-i-init : goal.loop-i-init
-loop-i-init c = record { sum = omega arith; small = omega arith; less = omega arith; short = omega arith; turns = omega arith }
+pub loop-init : goal.loop-init
+loop-init c = record { sum = omega arith; small = omega arith; less = omega arith; short = omega arith; turns = omega arith }
 
 pub overflow_mul-rest : goal.overflow_mul-rest
-overflow_mul-rest c = omega (arith, (bound _ _ _ _ _ c.loop-i.invariant))
+overflow_mul-rest c = omega (arith, (bound _ _ _ _ _ c.loop.invariant))
 
 pub overflow_add-rest : goal.overflow_add-rest
-overflow_add-rest c = omega (arith, (bound _ _ _ _ _ c.loop-i.invariant))
+overflow_add-rest c = omega (arith, (bound _ _ _ _ _ c.loop.invariant))
 
 pub overflow_mul-left : goal.overflow_mul-left
 overflow_mul-left c = omega arith
 
 pub overflow_mul-trial : goal.overflow_mul-trial
-overflow_mul-trial c = omega (arith, (bound _ _ _ _ _ c.loop-i.invariant))
+overflow_mul-trial c = omega (arith, (bound _ _ _ _ _ c.loop.invariant))
 
 pub overflow_add-trial : goal.overflow_add-trial
-overflow_add-trial c = omega (arith, (bound _ _ _ _ _ c.loop-i.invariant))
+overflow_add-trial c = omega (arith, (bound _ _ _ _ _ c.loop.invariant))
 
 pub overflow_mul-root : goal.overflow_mul-root
-overflow_mul-root c = omega (arith, (bound _ _ _ _ _ c.loop-i.invariant))
+overflow_mul-root c = omega (arith, (bound _ _ _ _ _ c.loop.invariant))
 
 pub overflow_add-root : goal.overflow_add-root
-overflow_add-root c = omega (arith, (bound _ _ _ _ _ c.loop-i.invariant))
+overflow_add-root c = omega (arith, (bound _ _ _ _ _ c.loop.invariant))
 
-pub overflow_add-i : goal.overflow_add-i
-overflow_add-i c = omega arith
-
-pub loop-i-smaller : goal.loop-i-smaller
-loop-i-smaller c = omega arith
-
-pub loop-i-preserved : goal.loop-i-preserved
-loop-i-preserved c =
-    let v = c.loop-i.invariant in
-    let l = c.loop-i-test.true in
+pub loop-preserved : goal.loop-preserved
+loop-preserved c =
+    let v = c.loop.invariant in
+    let l = c.loop-test.true in
     elim c.if-trial-rest.branch [
       | then-trial-rest w ↦ along w.rest-is w.root-is (yes _ _ _ _ _ v l w.if-trial-rest.true)
       | else-trial-rest w ↦ along w.rest-is w.root-is (no _ _ _ _ _ v l w.if-trial-rest.false)
     ]
 
 pub returns : goal.returns
-returns c = done _ _ _ _ _ c.loop-i.invariant c.loop-i-test.false
+returns c = done _ _ _ _ _ c.loop.invariant c.loop-test.false

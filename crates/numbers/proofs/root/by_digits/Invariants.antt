@@ -1,5 +1,5 @@
 -- The loop of `numbers::root::by_digits`.
-use Rattle.std.proofs.Common.{◌≡◌, ℕ, ◌+◌, ◌-◌, ◌*◌, ◌^◌, ◌<◌, ◌≤◌}
+use Rattle.std.proofs.Common.{◌≡◌, ℕ, ◌+◌, ◌*◌, ◌^◌, ◌<◌, ◌≤◌}
 use Rattle.numbers.proofs.root.by_digits.Given as goal
 
 pub record Inv (w left rest root i : ℕ) : Type 0 where
@@ -9,8 +9,5 @@ pub record Inv (w left rest root i : ℕ) : Type 0 where
   pub short : root < 2 ^ i
   pub turns : i ≤ 53
 
-abbrev pub invariant-loop-i : goal.invariant-loop-i
-invariant-loop-i l = Inv l.w l.left l.rest l.root l.i
-
-abbrev pub decreases-loop-i : goal.decreases-loop-i
-decreases-loop-i l = 53 - l.i
+abbrev pub invariant-loop : goal.invariant-loop
+invariant-loop l = Inv l.w l.left l.rest l.root l.counter

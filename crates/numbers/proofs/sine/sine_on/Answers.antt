@@ -6,7 +6,7 @@ use Rattle.numbers.specs.Sine.{sin_by, turns, rest}
 use Rattle.numbers.proofs.Range.{asked, mod4-lt, reduced-in, reduced-above, reduced-below}
 use Rattle.numbers.proofs.Constants.{zero_by_zero}
 use Rattle.numbers.proofs.sine.sine_on.Goals as goal
-use Rattle.numbers.proofs.sine.sine_on.Goals.{then-x+else-x-2, else-x}
+use Rattle.numbers.proofs.sine.sine_on.Goals.{else-x-via-then-x+else-x-2, else-x-via-else-x}
 
 abbrev on : ℕ → ℕ → Float → Float
 on more q = sin_by ((q + more) % 4)
@@ -33,7 +33,7 @@ pub returns : goal.returns
 unfolding decimal of_bits
 returns c =
     let a = c.args in
-    elim c.if-x.branch [
-      | then-x+else-x-2 w ↦ zero_by_zero ∙ sym (reduced-above (on a.more) a.x w.if-x-2.false)
-      | else-x w ↦ zero_by_zero ∙ sym (reduced-below (on a.more) a.x w.if-x.false)
+    elim c.else-x.branch [
+      | else-x-via-then-x+else-x-2 w ↦ zero_by_zero ∙ sym (reduced-above (on a.more) a.x w.if-x-2.false)
+      | else-x-via-else-x w ↦ zero_by_zero ∙ sym (reduced-below (on a.more) a.x w.if-x.false)
     ]

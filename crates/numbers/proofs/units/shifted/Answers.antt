@@ -1,14 +1,15 @@
--- `numbers::units::shifted` meets its contract: what is left, times 2 ^ left, is a * 2 ^ k modulo b. Assumes nothing.
-use Rattle.std.proofs.Common.{◌≡◌, ℕ, ◌+◌, ◌-◌, ◌*◌, ◌%◌, ◌^◌, ◌<◌, ◌≤◌, sym, ap, ◌∙◌, mod-lt, mul_assoc, mul-le-mul, arith, pow_mono, pow-add}
+-- `numbers::units::shifted` meets its contract: after n turns, rest is what b leaves of a * 2 ^ (11 * n). Assumes nothing.
+use Rattle.std.proofs.Common.{◌≡◌, ℕ, ◌+◌, ◌*◌, ◌%◌, ◌^◌, ◌<◌, ◌≤◌, sym, ap, ◌∙◌, mod-lt, mul_assoc, mul-le-mul, arith, pow_mono, pow-add}
 use Rattle.numbers.proofs.Modulo.{mod-first}
-use Rattle.numbers.proofs.units.shifted.Invariants.{Inv}
 use Rattle.numbers.proofs.units.shifted.Goals as goal
 
-again : (a k b rest left : ℕ) → 0 < b → 11 ≤ left → Inv a k b rest left → Inv a k b (rest * 2048 % b) (left - 11)
-again a k b rest left p h i =
-    let e : 11 + (left - 11) ≡ left = omega arith in
-    let f : rest * 2048 * 2 ^ (left - 11) ≡ rest * 2 ^ left = mul_assoc rest 2048 (2 ^ (left - 11)) ∙ ap (λ (z : ℕ). rest * z) (sym (pow-add 2 11 (left - 11)) ∙ ap (λ (z : ℕ). 2 ^ z) e) in
-    record { same = mod-first (rest * 2048) b (2 ^ (left - 11)) ∙ ap (λ (z : ℕ). z % b) f ∙ i.same; less = mod-lt (rest * 2048) p }
+-- m more digits behind a * 2 ^ j
+behind : (a b j m rest : ℕ) → rest ≡ a * 2 ^ j % b → rest * 2 ^ m % b ≡ a * 2 ^ (j + m) % b
+behind a b j m rest e =
+    ap (λ (z : ℕ). z * 2 ^ m % b) e ∙ mod-first (a * 2 ^ j) b (2 ^ m) ∙ ap (λ (z : ℕ). z % b) (mul_assoc a (2 ^ j) (2 ^ m) ∙ ap (λ (z : ℕ). a * z) (sym (pow-add 2 j m)))
+
+less : (a b j rest : ℕ) → 0 < b → rest ≡ a * 2 ^ j % b → rest < b
+less a b j rest p e = rw e (mod-lt (a * 2 ^ j) p)
 
 small : (rest b left : ℕ) → rest < b → b ≤ 2 ^ 53 → left < 11 → rest * 2 ^ left < 2 ^ 64
 small rest b left h k l =
@@ -17,22 +18,19 @@ small rest b left h k l =
     let m = mul-le-mul q p in
     omega arith
 
-pub loop-left-init : goal.loop-left-init
-loop-left-init c = record { same = mod-first _ _ _; less = mod-lt _ c.requires.0 }
+pub loop-init : goal.loop-init
+loop-init c = ap (λ (z : ℕ). z % c.args.b) (omega arith)
 
 pub overflow_mul-rest : goal.overflow_mul-rest
-overflow_mul-rest c = omega (arith, c.loop-left.invariant.less)
+overflow_mul-rest c = omega (arith, less _ _ _ _ c.requires.0 c.loop.invariant)
 
-pub loop-left-smaller : goal.loop-left-smaller
-loop-left-smaller c = omega arith
-
-pub loop-left-preserved : goal.loop-left-preserved
-loop-left-preserved c = again _ _ _ _ _ c.requires.0 c.loop-left-test.true c.loop-left.invariant
+pub loop-preserved : goal.loop-preserved
+loop-preserved c = behind _ _ _ 11 _ c.loop.invariant ∙ ap (λ (n : ℕ). c.args.a * 2 ^ n % c.args.b) (omega arith)
 
 pub overflow_mul-result : goal.overflow_mul-result
 overflow_mul-result c =
-    let h : c.loop-left.rest * c.power.result < 2 ^ 64 = rw c.power.ensures (small _ _ _ c.loop-left.invariant.less c.requires.1 c.loop-left-test.false) in
+    let h : c.loop.rest * c.power.result < 2 ^ 64 = rw c.power.ensures (small _ _ _ (less _ _ _ _ c.requires.0 c.loop.invariant) c.requires.1 (omega arith)) in
     omega arith
 
 pub returns : goal.returns
-returns c = rw c.power.ensures c.loop-left.invariant.same
+returns c = rw c.power.ensures (behind _ _ _ _ _ c.loop.invariant ∙ ap (λ (n : ℕ). c.args.a * 2 ^ n % c.args.b) (omega (arith, c.loop-test.false, c.loop.auto.counter-end)))
