@@ -74,13 +74,7 @@ pub fn rem(x: f64, y: f64) -> f64
     let b = bits(x);
     let a = b % SIGN;
     let d = bits(y) % SIGN;
-    if a >= INFINITY_BITS {
-        return 0.0 / 0.0;
-    }
-    if d > INFINITY_BITS {
-        return 0.0 / 0.0;
-    }
-    if d == 0 {
+    if a >= INFINITY_BITS || d > INFINITY_BITS || d == 0 {
         return 0.0 / 0.0;
     }
     if a < d {

@@ -119,17 +119,11 @@ fn plain(x: f64) -> f64
         return x;
     }
     let b = f64::to_bits(x);
-    if b == 0 {
-        return x;
-    }
-    if b == MINUS_ZERO_BITS {
+    if b == 0 || b == MINUS_ZERO_BITS || b == INFINITY_BITS {
         return x;
     }
     if b > MINUS_ZERO_BITS {
         return 0.0 / 0.0;
-    }
-    if b == INFINITY_BITS {
-        return x;
     }
     f64::from_bits(root_bits(b))
 }
@@ -217,10 +211,7 @@ fn beside(x: f64, b: u64, s: f64) -> f64
         return plain(x);
     }
     let d = f64::to_bits(s);
-    if d < TWO_52 {
-        return plain(x);
-    }
-    if d >= INFINITY_BITS {
+    if d < TWO_52 || d >= INFINITY_BITS {
         return plain(x);
     }
     let up = f64::from_bits(d + 1);

@@ -110,16 +110,12 @@ fn left_over(x: f64, n: f64) -> f64
 fn sin_by(quarter: u64, r: f64) -> f64
     ensures { result ≡ sin_by quarter r }
 {
-    if quarter == 0 {
-        return sin_poly(r);
+    match quarter {
+        0 => sin_poly(r),
+        1 => cos_poly(r),
+        2 => -sin_poly(r),
+        _ => -cos_poly(r),
     }
-    if quarter == 1 {
-        return cos_poly(r);
-    }
-    if quarter == 2 {
-        return -sin_poly(r);
-    }
-    -cos_poly(r)
 }
 
 // The sine of x after `more` further quarter turns, or NaN for x outside -64 to 64.

@@ -14,9 +14,9 @@ one-not false b h = refl
 not-both : (c : Joined-else-a) → (zero? c.args.a && zero? c.args.b) ≡ false
 unfolding decimal of_bits
 not-both c = elim c.else-a.branch [
-    | else-a-via-then-a+else-b w ↦ one-not (zero? c.args.a) (zero? c.args.b) w.if-b.false
-    | else-a-via-else-a w ↦ ap (λ (t : Bool). t && zero? c.args.b) w.if-a.false
-  ]
+  | else-a-via-then-a+else-b w ↦ one-not (zero? c.args.a) (zero? c.args.b) w.if-b.false
+  | else-a-via-else-a w ↦ ap (λ (t : Bool). t && zero? c.args.b) w.if-a.false
+]
 
 pub returns-then-b : goal.returns-then-b
 unfolding atan_base decimal of_bits

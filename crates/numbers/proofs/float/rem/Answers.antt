@@ -5,15 +5,17 @@ use Rattle.numbers.proofs.Constants.{zero_by_zero}
 use Rattle.numbers.proofs.Quotient.{exact}
 use Rattle.numbers.proofs.RemLaws.{not_finite, by-nan, by_zero, smaller, larger}
 use Rattle.numbers.proofs.float.rem.Goals as goal
+use Rattle.numbers.proofs.float.rem.Goals.{then-a-ge-INFINITY_BITS-via-then-a-ge-INFINITY_BITS, then-a-ge-INFINITY_BITS-via-else-a-ge-INFINITY_BITS+then-d-gt-INFINITY_BITS, then-a-ge-INFINITY_BITS-via-else-a-ge-INFINITY_BITS+else-d-gt-INFINITY_BITS+then-d-eq0}
 
 pub returns-then-a-ge-INFINITY_BITS : goal.returns-then-a-ge-INFINITY_BITS
-returns-then-a-ge-INFINITY_BITS c = zero_by_zero ∙ not_finite _ _ (subst T (sym c.well_formed.0.1) tt) (rw c.bits-b.ensures at c.if-a-ge-INFINITY_BITS.true)
-
-pub returns-then-d-gt-INFINITY_BITS : goal.returns-then-d-gt-INFINITY_BITS
-returns-then-d-gt-INFINITY_BITS c = zero_by_zero ∙ by-nan _ _ (subst T (sym c.well_formed.1.0.1) tt) (rw c.bits-d.ensures at c.if-d-gt-INFINITY_BITS.true)
-
-pub returns-then-d-eq0 : goal.returns-then-d-eq0
-returns-then-d-eq0 c = zero_by_zero ∙ by_zero _ _ (subst T (sym c.well_formed.1.0.1) tt) (rw c.bits-d.ensures at c.if-d-eq0.true)
+returns-then-a-ge-INFINITY_BITS c =
+    let x = subst T (sym c.well_formed.0.1) tt in
+    let y = subst T (sym c.well_formed.1.0.1) tt in
+    zero_by_zero ∙ elim c.then-a-ge-INFINITY_BITS.branch [
+      | then-a-ge-INFINITY_BITS-via-then-a-ge-INFINITY_BITS w ↦ not_finite _ _ x (rw c.bits-b.ensures at w.if-a-ge-INFINITY_BITS.true)
+      | then-a-ge-INFINITY_BITS-via-else-a-ge-INFINITY_BITS+then-d-gt-INFINITY_BITS w ↦ by-nan _ _ y (rw c.bits-d.ensures at w.if-d-gt-INFINITY_BITS.true)
+      | then-a-ge-INFINITY_BITS-via-else-a-ge-INFINITY_BITS+else-d-gt-INFINITY_BITS+then-d-eq0 w ↦ by_zero _ _ y (rw c.bits-d.ensures at w.if-d-eq0.true)
+    ]
 
 pub returns-then-a-d : goal.returns-then-a-d
 returns-then-a-d c =

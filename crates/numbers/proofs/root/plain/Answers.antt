@@ -10,6 +10,7 @@ use Rattle.numbers.proofs.Constants.{zero_by_zero}
 use Rattle.numbers.proofs.SignLaws.{bits_of_number}
 use Rattle.numbers.proofs.NoNan.{no_nan, no-nan-bits}
 use Rattle.numbers.proofs.root.plain.Goals as goal
+use Rattle.numbers.proofs.root.plain.Goals.{then-b-eq0-via-then-b-eq0, then-b-eq0-via-else-b-eq0+then-b, then-b-eq0-via-else-b-eq0+else-b+then-b-eq-INFINITY_BITS}
 
 known : (x : Float) (b : ℕ) → T (fits binary64 x) → to_bits binary64 x ≡ b → x ≡ of_bits binary64 b
 known x b f e = sym (of_bits-to_bits binary64 x f) ∙ ap (of_bits binary64) e
@@ -63,18 +64,18 @@ pub float_to_bits-b : goal.float_to_bits-b
 float_to_bits-b c = no_nan c.args.x c.if-x.false
 
 pub returns-then-b-eq0 : goal.returns-then-b-eq0
-returns-then-b-eq0 c = itself _ (of_bits binary64 0) (known _ 0 (subst T (sym c.well_formed.0.1) tt) c.if-b-eq0.true) zero-itself
-
-pub returns-then-b : goal.returns-then-b
-returns-then-b c = itself _ (of_bits binary64 9223372036854775808) (known _ 9223372036854775808 (subst T (sym c.well_formed.0.1) tt) c.if-b.true) minus-zero-itself
+returns-then-b-eq0 c =
+    let x = subst T (sym c.well_formed.0.1) tt in
+    elim c.then-b-eq0.branch [
+      | then-b-eq0-via-then-b-eq0 w ↦ itself _ (of_bits binary64 0) (known _ 0 x w.if-b-eq0.true) zero-itself
+      | then-b-eq0-via-else-b-eq0+then-b w ↦ itself _ (of_bits binary64 9223372036854775808) (known _ 9223372036854775808 x w.if-b.true) minus-zero-itself
+      | then-b-eq0-via-else-b-eq0+else-b+then-b-eq-INFINITY_BITS w ↦ itself _ (of_bits binary64 9218868437227405312) (known _ 9218868437227405312 x w.if-b-eq-INFINITY_BITS.true) inf-itself
+    ]
 
 pub returns-then-b-gt-MINUS_ZERO_BITS : goal.returns-then-b-gt-MINUS_ZERO_BITS
 returns-then-b-gt-MINUS_ZERO_BITS c =
     let x = c.args.x in
     zero_by_zero ∙ negative x (to_bits binary64 x) c.if-b-gt-MINUS_ZERO_BITS.true (to_bits-lt binary64 x (subst T (sym c.well_formed.0.1) tt)) (known x (to_bits binary64 x) (subst T (sym c.well_formed.0.1) tt) refl)
-
-pub returns-then-b-eq-INFINITY_BITS : goal.returns-then-b-eq-INFINITY_BITS
-returns-then-b-eq-INFINITY_BITS c = itself _ (of_bits binary64 9218868437227405312) (known _ 9218868437227405312 (subst T (sym c.well_formed.0.1) tt) c.if-b-eq-INFINITY_BITS.true) inf-itself
 
 pub root_bits-requires : goal.root_bits-requires
 root_bits-requires c =
