@@ -1,5 +1,6 @@
 -- What `normalised_radians` answers in each of its cases. An angle within the maximum on either side of zero is its own remainder, so that normalising it takes no division. Assumes nothing.
-use Rattle.std.proofs.Common.{◌≡◌, ℕ, ◌+◌, ◌*◌, ◌<◌, Bool, true, false, not, ◌&&◌, T, eqb, pos, sym, refl, ap, ◌∙◌, subst, true≢false, arith, eqb→eq, ltb-true, lt-ltb, ne_eqb}
+use Rattle.std.proofs.lemmas.Float.{T_from_true}
+use Rattle.std.proofs.Common.{◌≡◌, ℕ, ◌+◌, ◌*◌, ◌<◌, Bool, true, false, not, ◌&&◌, T, eqb, pos, sym, refl, ap, ◌∙◌, true≢false, arith, eqb→eq, ltb-true, lt-ltb, ne_eqb}
 use lib.Ieee.{Float, nan, inf, fin, binary64, up, down, below, level, le, lt, eq, neg}
 use lib.Ieee.Fits.{and_l}
 use lib.Ieee.Positive.{first_pos}
@@ -78,7 +79,7 @@ inside (fin true m e) (fin t n d) h k = go t k
   where
     none : m * up e * down d ≡ 0
     none =
-        let z : 0 * 1 * down e ≡ m * up e * 1 = eqb→eq (0 * 1 * down e) (m * up e * 1) (and_l (eqb (0 * 1 * down e) (m * up e * 1)) (eqb (0 * 1 * down e) 0) (subst T (sym h) tt)) in
+        let z : 0 * 1 * down e ≡ m * up e * 1 = eqb→eq (0 * 1 * down e) (m * up e * 1) (and_l (eqb (0 * 1 * down e) (m * up e * 1)) (eqb (0 * 1 * down e) 0) (T_from_true _ h)) in
         let w : m * up e ≡ 0 = omega arith in
         ap (λ (a : ℕ). a * down d) w ∙ omega arith
 

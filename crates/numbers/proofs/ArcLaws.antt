@@ -1,5 +1,6 @@
 -- What `asin` needs to make its jumps early: where `atan2`'s tests are answered by others, and that the root has no sign. Assumes nothing.
-use Rattle.std.proofs.Common.{◌≡◌, ℕ, zero, suc, ◌+◌, ◌*◌, ◌/◌, ◌^◌, Bool, true, false, cond, ◌&&◌, ◌||◌, T, eqb, ltb, ℤ, sym, refl, ap, ◌∙◌, subst, true≢false, zero-mul, arith, eqb→eq}
+use Rattle.std.proofs.lemmas.Float.{T_from_true}
+use Rattle.std.proofs.Common.{◌≡◌, ℕ, zero, suc, ◌+◌, ◌*◌, ◌/◌, ◌^◌, Bool, true, false, cond, ◌&&◌, ◌||◌, eqb, ltb, ℤ, sym, refl, ap, ◌∙◌, true≢false, zero-mul, arith, eqb→eq}
 use mathlib.Core.Bool.{beq}
 use lib.Ieee.{Float, nan, inf, fin, binary64, up, down, below, level, lt, le, eq, units, odd, round, low, emax}
 use lib.Ieee.Fits.{round_is}
@@ -32,7 +33,7 @@ zero_is : (s : Bool) (m : ℕ) (e : ℤ) → zero? (fin s m e) ≡ true → m * 
 unfolding eq decimal
 zero_is s m e h =
     let f : eqb (m * up e * 1) (0 * 1 * down e) ≡ true = first (eqb (m * up e * 1) (0 * 1 * down e)) (beq s false || eqb (m * up e * 1) 0) h in
-    let p : m * up e * 1 ≡ 0 * 1 * down e = eqb→eq (m * up e * 1) (0 * 1 * down e) (subst T (sym f) tt) in
+    let p : m * up e * 1 ≡ 0 * 1 * down e = eqb→eq (m * up e * 1) (0 * 1 * down e) (T_from_true _ f) in
     omega arith
 
 below-zero : (s t : Bool) → below s 0 t 0 ≡ false

@@ -1,4 +1,5 @@
 -- Laws of one rounded operation, at any format: zero is neutral in a sum, a finite value less itself is zero, and so is zero times one. Assumes nothing.
+use Rattle.std.proofs.lemmas.Float.{T_from_true}
 use Rattle.std.proofs.Common.{◌≡◌, ℕ, zero, suc, ◌+◌, ◌-◌, ◌*◌, ◌%◌, ◌<◌, Bool, true, false, cond, not, ◌&&◌, ◌||◌, T, eqb, ltb, ℤ, pos, sym, refl, ap, ◌∙◌, subst, true≢false, add-zero, lt_irrefl, mod-eq_of_lt, zero-lt-suc, mul-pos, one-mul, zero-add, zero-mul, mul-one, arith, eqb→eq, ltb→lt, lt→ltb}
 use native.Mathlib.Nat.{sub-zero, sub_self}
 use mathlib.Core.Bool.{beq}
@@ -259,8 +260,8 @@ rem-fin f s m e t n d h l = go (eqb n 0) (eqb→eq n 0)
 
 -- from the two comparisons
 pub smaller : (s : Bool) (a : ℕ) (t : Bool) (b : ℕ) → below (not t) b s a ≡ true → below s a t b ≡ true → a < b
-smaller false a false b h k = ltb→lt a b (subst T (sym k) tt)
-smaller true a false b h k = ltb→lt a b (subst T (sym h) tt)
+smaller false a false b h k = ltb→lt a b (T_from_true _ k)
+smaller true a false b h k = ltb→lt a b (T_from_true _ h)
 smaller false a true b h k = absurd (true≢false (sym k))
 smaller true a true b h k = absurd (true≢false (sym h))
 

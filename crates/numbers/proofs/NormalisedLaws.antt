@@ -1,6 +1,7 @@
 -- An angle that is normalised to a maximum above zero is at least zero and below the maximum. Assumes nothing.
 -- `normalised-below`: for every finite angle. Of an infinite maximum it says the same: an angle below zero comes to 0, and any other stays.
 -- `normalised-never`: for every angle, a NaN and the infinities included, whose answer is a NaN: it never reaches the maximum.
+use Rattle.std.proofs.lemmas.Float.{T_from_true}
 use Rattle.std.proofs.Common.{◌≡◌, ℕ, ◌+◌, ◌-◌, ◌*◌, ◌/◌, ◌%◌, ◌^◌, ◌<◌, ◌≤◌, Bool, true, false, cond, not, ◌&&◌, ◌||◌, T, ltb, ℤ, pos, sym, refl, ap, ◌∙◌, subst, inl, inr, true≢false, le_trans, le_of_eq, lt_of_le_of_lt, mul-le-mul_right, mod-lt, zero-lt-suc, mul_assoc, mul-pos, div-add-mod', sub-le, arith, pow_pos, pow-add, ltb-false, ltb-true, le-ltb, lt-ltb}
 use lib.Ieee.{Float, nan, inf, fin, binary64, up, down, round, rem, add, sum, lt, le, eq}
 use lib.Ieee.Exact.{HasValue, round_exact}
@@ -234,5 +235,5 @@ pub normalised-never : (a max : Float) → Fits a → Fits max → lt (num 0) ma
 normalised-never a max f g p = go (finite a) refl
   where
     go : (b : Bool) → finite a ≡ b → le max (normalised_to (angle a) (angle max)).0 ≡ false
-    go true h = not-reached (normalised_to (angle a) (angle max)).0 max (normalised-below a max f g (subst T (sym h) tt) p).short_of
+    go true h = not-reached (normalised_to (angle a) (angle max)).0 max (normalised-below a max f g (T_from_true _ h) p).short_of
     go false h = ap (λ (x : Angle). le max x.0) (no_number a max (subst (λ (b : Bool). T (not b)) (sym h) tt)) ∙ nan-not-above max

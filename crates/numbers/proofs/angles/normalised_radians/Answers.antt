@@ -1,5 +1,6 @@
 -- `numbers::angles::normalised_radians` meets its contract. Assumes nothing.
-use Rattle.std.proofs.Common.{T, sym, ap, ◌∙◌, subst}
+use Rattle.std.proofs.lemmas.Float.{T_from_true}
+use Rattle.std.proofs.Common.{ap, ◌∙◌}
 use lib.Ieee.{Float, eq}
 use Rattle.numbers.specs.Ops.{num, pick}
 use Rattle.numbers.specs.Angles.{angle}
@@ -11,7 +12,7 @@ pub returns-then-radians-max-2 : goal.returns-then-radians-max-2
 returns-then-radians-max-2 c =
     let max = c.args.max in
     ap angle c.short_of.ensures ∙ ap (λ (x : Float). angle (pick (eq x max) (num 0) x)) c.lifted.ensures
-    ∙ within _ _ (subst T (sym c.well_formed.0.1) tt) c.if-radians-max.true c.if-radians-max-2.true
+    ∙ within _ _ (T_from_true _ c.well_formed.0.1) c.if-radians-max.true c.if-radians-max-2.true
 
 pub returns-else-radians-max : goal.returns-else-radians-max
 returns-else-radians-max c =

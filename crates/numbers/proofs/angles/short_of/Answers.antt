@@ -6,6 +6,3 @@ use Rattle.numbers.proofs.angles.short_of.Goals as goal
 pub returns-then-radians-max : goal.returns-then-radians-max
 unfolding of_bits decimal
 returns-then-radians-max c = simp c.if-radians-max.true
-
-pub returns-else-radians-max : goal.returns-else-radians-max
-returns-else-radians-max c = simp c.if-radians-max.false

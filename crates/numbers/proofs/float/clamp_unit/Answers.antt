@@ -12,10 +12,6 @@ chosen true d x y z = refl
 chosen false true x y z = refl
 chosen false false x y z = refl
 
-pub clamp-requires : goal.clamp-requires
-unfolding of_bits Ieee.le Ieee.neg
-clamp-requires c = tt
-
 pub returns : goal.returns
 unfolding of_bits decimal clamp_unit
 returns c =

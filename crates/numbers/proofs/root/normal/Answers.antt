@@ -58,13 +58,6 @@ doubled m q p = elim (below_or_not (q % 2) 1) [
       }
 ]
 
-pub overflow_mul-result : goal.overflow_mul-result
-overflow_mul-result c =
-    let b = c.args.b in
-    let p : 0 < b / 4503599627370496 = omega arith in
-    let d = doubled (4503599627370496 + b % 4503599627370496) (b / 4503599627370496) p in
-    omega (arith, d.high)
-
 pub returns : goal.returns
 returns c =
     let b = c.args.b in

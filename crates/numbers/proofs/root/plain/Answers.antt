@@ -1,5 +1,6 @@
 -- `numbers::root::plain` meets its contract. Assumes nothing.
-use Rattle.std.proofs.Common.{◌≡◌, ℕ, zero, suc, ◌+◌, ◌*◌, ◌/◌, ◌%◌, ◌^◌, ◌<◌, ◌≤◌, Bool, true, false, cond, T, eqb, leb, sym, refl, ap, ◌∙◌, subst, true≢false, mul-pos, arith, le→leb, pow_pos}
+use Rattle.std.proofs.lemmas.Float.{T_from_true}
+use Rattle.std.proofs.Common.{◌≡◌, ℕ, zero, suc, ◌+◌, ◌*◌, ◌/◌, ◌%◌, ◌^◌, ◌<◌, ◌≤◌, Bool, true, false, cond, T, eqb, leb, sym, refl, ap, ◌∙◌, true≢false, mul-pos, arith, le→leb, pow_pos}
 use lib.Ieee.{Float, nan, inf, fin, binary64, of_bits, to_bits, fits, odd, of_fields}
 use lib.Ieee.Exact.{HasValue, odd_sign}
 use lib.Ieee.Bits.{of_bits-to_bits, to_bits-lt, is_true}
@@ -58,14 +59,14 @@ negative x b h u e = sym (ap sqrt (e ∙ of_bits_is b ∙ ap (λ (s : Bool). of_
     ∙ neg-fields (b % 9223372036854775808 / 4503599627370496) (b % 4503599627370496) (omega arith))
 
 pub returns-then-x : goal.returns-then-x
-returns-then-x c = itself _ nan (differs_from_itself c.args.x (subst T (sym c.if-x.true) tt)) nan-itself
+returns-then-x c = itself _ nan (differs_from_itself c.args.x (T_from_true _ c.if-x.true)) nan-itself
 
 pub float_to_bits-b : goal.float_to_bits-b
 float_to_bits-b c = no_nan c.args.x c.if-x.false
 
 pub returns-then-b-eq0 : goal.returns-then-b-eq0
 returns-then-b-eq0 c =
-    let x = subst T (sym c.well_formed.0.1) tt in
+    let x = T_from_true _ c.well_formed.0.1 in
     elim c.then-b-eq0.branch [
       | then-b-eq0-via-then-b-eq0 w ↦ itself _ (of_bits binary64 0) (known _ 0 x w.if-b-eq0.true) zero-itself
       | then-b-eq0-via-else-b-eq0+then-b w ↦ itself _ (of_bits binary64 9223372036854775808) (known _ 9223372036854775808 x w.if-b.true) minus-zero-itself
@@ -75,12 +76,12 @@ returns-then-b-eq0 c =
 pub returns-then-b-gt-MINUS_ZERO_BITS : goal.returns-then-b-gt-MINUS_ZERO_BITS
 returns-then-b-gt-MINUS_ZERO_BITS c =
     let x = c.args.x in
-    zero_by_zero ∙ negative x (to_bits binary64 x) c.if-b-gt-MINUS_ZERO_BITS.true (to_bits-lt binary64 x (subst T (sym c.well_formed.0.1) tt)) (known x (to_bits binary64 x) (subst T (sym c.well_formed.0.1) tt) refl)
+    zero_by_zero ∙ negative x (to_bits binary64 x) c.if-b-gt-MINUS_ZERO_BITS.true (to_bits-lt binary64 x (T_from_true _ c.well_formed.0.1)) (known x (to_bits binary64 x) (T_from_true _ c.well_formed.0.1) refl)
 
 pub root_bits-requires : goal.root_bits-requires
 root_bits-requires c =
     let x = c.args.x in
-    let n = bits_of_number x (subst T (sym c.well_formed.0.1) tt) (no_nan x c.if-x.false) in
+    let n = bits_of_number x (T_from_true _ c.well_formed.0.1) (no_nan x c.if-x.false) in
     within (to_bits binary64 x) n c.if-b-eq0.false c.if-b.false c.if-b-gt-MINUS_ZERO_BITS.false c.if-b-eq-INFINITY_BITS.false
   where
     within : (b : ℕ) → b % 9223372036854775808 ≤ 9218868437227405312 → (b ≡ 0 → ⊥) → (b ≡ 9223372036854775808 → ⊥) → b ≤ 9223372036854775808 → (b ≡ 9218868437227405312 → ⊥) → (0 < b) × (b < 9218868437227405312)
@@ -91,4 +92,4 @@ float_from_bits-result c = no-nan-bits c.root_bits.result (omega arith)
 
 pub returns : goal.returns
 returns c =
-    c.root_bits.ensures.is ∙ ap sqrt (of_bits-to_bits binary64 c.args.x (subst T (sym c.well_formed.0.1) tt))
+    c.root_bits.ensures.is ∙ ap sqrt (of_bits-to_bits binary64 c.args.x (T_from_true _ c.well_formed.0.1))

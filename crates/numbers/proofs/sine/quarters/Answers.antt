@@ -1,12 +1,7 @@
 -- `numbers::sine::quarters` meets its contract: of `candidate` only the test counts, by `tested` of `proofs/CeilLaw.antt`. Assumes nothing.
-use Rattle.std.proofs.Common.{arith}
 use lib.Ieee.{of_bits, of_int}
-use Rattle.numbers.proofs.Quotient.{exact}
 use Rattle.numbers.proofs.CeilLaw.{tested}
 use Rattle.numbers.proofs.sine.quarters.Goals as goal
-
-pub int_to_float-f : goal.int_to_float-f
-int_to_float-f c = exact c.candidate-k.result (omega arith)
 
 pub returns-then-f-y : goal.returns-then-f-y
 unfolding of_bits of_int

@@ -1,11 +1,8 @@
 -- `numbers::sine::sin` meets its contract. Assumes nothing.
-use Rattle.std.proofs.Common.{◌∙◌, arith}
+use Rattle.std.proofs.Common.{◌∙◌}
 use Rattle.numbers.specs.Sine.{sin}
 use Rattle.numbers.proofs.Range.{sine-here}
 use Rattle.numbers.proofs.sine.sin.Goals as goal
-
-pub sine_on-requires : goal.sine_on-requires
-sine_on-requires c = omega arith
 
 pub returns : goal.returns
 unfolding sin

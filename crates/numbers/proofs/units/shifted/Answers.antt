@@ -18,12 +18,6 @@ small rest b left h k l =
     let m = mul-le-mul q p in
     omega arith
 
-pub loop-init : goal.loop-init
-loop-init c = ap (λ (z : ℕ). z % c.args.b) (omega arith)
-
-pub overflow_mul-rest : goal.overflow_mul-rest
-overflow_mul-rest c = omega (arith, less _ _ _ _ c.requires.0 c.loop.invariant)
-
 pub loop-preserved : goal.loop-preserved
 loop-preserved c = behind _ _ _ 11 _ c.loop.invariant ∙ ap (λ (n : ℕ). c.args.a * 2 ^ n % c.args.b) (omega arith)
 
