@@ -14,7 +14,7 @@ pub fn example_1(rt: &impl Print) -> io::Result<()> {
     let earth = Ellipsoid::wgs84();
     let a = geodetic(1.0, 2.0, -3.0);
     let b = earth.geodetic_to_geocentric_position(geodetic(4.0, 5.0, -6.0));
-    let v = LocalFrame::ned_from_geodetic(a, earth).local_vector_to(b);
+    let v = LocalFrame::ned(a, earth).local_vector_to(b);
     figure(rt, b"Gade 1 north 331730.23 m", v.x.0, 331730.23, 0.005)?;
     figure(rt, b"Gade 1 east 332997.87 m", v.y.0, 332997.87, 0.005)?;
     figure(rt, b"Gade 1 down 17404.27 m", v.z.0, 17404.27, 0.005)?;
@@ -35,7 +35,7 @@ pub fn example_2(rt: &impl Print) -> io::Result<()> {
     let yaw = Angle::from_degrees(10.0);
     let pitch = Angle::from_degrees(20.0);
     let roll = Angle::from_degrees(30.0);
-    let body = LocalFrame::body_from_geodetic(yaw, pitch, roll, b, earth);
+    let body = LocalFrame::body(yaw, pitch, roll, b, earth);
     let v = LocalVector::from_metres(Orientation::Body, 3000.0, 2000.0, 100.0);
     let c = earth.geocentric_to_geodetic_position(body.destination_position(v));
     let ll = LatLong::from_nvector(c.hp);
