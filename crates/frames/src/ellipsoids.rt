@@ -82,14 +82,14 @@ impl Ellipsoid {
     pub fn latitude_radius(self, latitude: Angle) -> Length
         ensures { result ≡ latitude_radius self latitude }
     {
-        if latitude.eq(Angle::QUARTER_CIRCLE) {
+        if latitude == Angle::QUARTER_CIRCLE {
             return Length::ZERO;
         }
-        if latitude.eq(Angle::NEG_QUARTER_CIRCLE) {
+        if latitude == Angle::NEG_QUARTER_CIRCLE {
             return Length::ZERO;
         }
         let n = self.prime_vertical_radius(latitude);
-        n.mul(cos(latitude.0))
+        n * cos(latitude.0)
     }
 
     pub fn prime_vertical_radius(self, latitude: Angle) -> Length
@@ -117,8 +117,8 @@ impl Ellipsoid {
     {
         let a = self.equatorial_radius;
         let b = self.polar_radius;
-        let sum = a.mul(2.0).add(b);
-        sum.div_f64(3.0)
+        let sum = a * 2.0 + b;
+        sum / 3.0
     }
 
     pub fn geodetic_to_geocentric_position(self, pos: GeodeticPosition) -> GeocentricPosition

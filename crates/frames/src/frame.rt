@@ -36,7 +36,7 @@ impl LocalFrame {
         ensures { result ≡ new_ned (P.geodetic_on origin surface) (P.geocentric_on origin surface) }
     {
         let vo = origin.to_geodetic(surface).hp.0;
-        let rd = vo.mul(-1.0);
+        let rd = vo * -1.0;
         let re = Vec3::UNIT_Z.orthogonal_to(vo);
         let rn = re.cross_prod(rd);
         let inv_rm = Mat33::new(rn, re, rd);
@@ -76,7 +76,7 @@ impl LocalFrame {
     {
         let r_nb = zyx2r(yaw, pitch, roll);
         let r_en = self.dir_rm;
-        let dir_rm = r_en.mul(r_nb);
+        let dir_rm = r_en * r_nb;
         LocalFrame {
             origin: self.origin,
             dir_rm,
@@ -89,9 +89,9 @@ impl LocalFrame {
         ensures { result ≡ new_wander_azimuth wander_azimuth (P.geodetic_on origin surface) (P.geocentric_on origin surface) }
     {
         let ll = LatLong::from_nvector(origin.to_geodetic(surface).hp);
-        let r = xyz2r(ll.longitude, ll.latitude.neg(), wander_azimuth);
+        let r = xyz2r(ll.longitude, -ll.latitude, wander_azimuth);
         let r_ee = Mat33::new(Vec3::NEG_UNIT_Z, Vec3::UNIT_Y, Vec3::UNIT_X);
-        let dir_rm = r_ee.mul(r);
+        let dir_rm = r_ee * r;
         LocalFrame {
             origin: origin.to_geocentric(surface).as_metres(),
             dir_rm,
@@ -140,8 +140,8 @@ impl LocalFrame {
         ensures { result ≡ Frames.transform self offset yaw pitch roll }
     {
         let o = self.orientation;
-        let global_translation = offset.as_metres().mul_mat33(self.dir_rm);
-        let new_origin = self.origin.add(global_translation);
+        let global_translation = offset.as_metres() * self.dir_rm;
+        let new_origin = self.origin + global_translation;
         let r_delta = zyx2r(yaw, pitch, roll);
         let dir_rm = rotate(o, self.dir_rm, r_delta);
         LocalFrame {
@@ -157,16 +157,16 @@ impl LocalFrame {
     {
         let o = self.orientation;
         let t_vec3 = target.as_metres();
-        let de = t_vec3.sub(self.origin);
-        let d = de.mul_mat33(self.inv_rm);
+        let de = t_vec3 - self.origin;
+        let d = de * self.inv_rm;
         LocalVector::from_vec3_metres(o, d)
     }
 
     pub fn destination_position(self, vector: LocalVector) -> GeocentricPosition
         ensures { result ≡ destination_position self vector }
     {
-        let c = vector.as_metres().mul_mat33(self.dir_rm);
-        let v = self.origin.add(c);
+        let c = vector.as_metres() * self.dir_rm;
+        let v = self.origin + c;
         GeocentricPosition::from_vec3_metres(v)
     }
 }
@@ -175,7 +175,7 @@ impl LocalFrame {
 fn rotate(o: Orientation, m1: Mat33, m2: Mat33) -> Mat33
     ensures { result ≡ Frames.rotate o m1 m2 }
 {
-    let m = m1.mul(m2);
+    let m = m1 * m2;
     let z_down = align_to_z_down_matrix();
-    if o.is_z_up() { m.mul(z_down) } else { m }
+    if o.is_z_up() { m * z_down } else { m }
 }

@@ -198,10 +198,10 @@ fn nvector_to_latlong(nvector: Vec3) -> LatLong
 fn latlong_to_nvector(latitude: Angle, longitude: Angle) -> Vec3
     ensures { result ≡ latlong_to_nvector latitude longitude }
 {
-    if latitude.eq(Angle::QUARTER_CIRCLE) {
+    if latitude == Angle::QUARTER_CIRCLE {
         return Vec3::UNIT_Z;
     }
-    if latitude.eq(Angle::NEG_QUARTER_CIRCLE) {
+    if latitude == Angle::NEG_QUARTER_CIRCLE {
         return Vec3::NEG_UNIT_Z;
     }
     let cl = cos(latitude.0);

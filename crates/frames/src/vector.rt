@@ -74,7 +74,7 @@ impl LocalVector {
         if orientation.is_z_up() {
             LocalVector::new(orientation, east, north, z)
         } else {
-            LocalVector::new(orientation, north, east, z.neg())
+            LocalVector::new(orientation, north, east, -z)
         }
     }
 
@@ -93,7 +93,7 @@ impl LocalVector {
             return Angle::ZERO;
         }
         let z = self.z;
-        let r = asin(clamp_unit(z.div(sr)));
+        let r = asin(clamp_unit(z / sr));
         let o = self.orientation;
         if o.is_z_up() { Angle(r) } else { Angle(-r) }
     }
@@ -142,7 +142,7 @@ impl LocalVector {
         let o = self.orientation;
         let a = self.as_metres();
         let b = rhs.as_metres();
-        LocalVector::from_vec3_metres(o, a.add(b))
+        LocalVector::from_vec3_metres(o, a + b)
     }
 
     pub fn sub(self, rhs: Self) -> Self
@@ -151,7 +151,7 @@ impl LocalVector {
         let o = self.orientation;
         let a = self.as_metres();
         let b = rhs.as_metres();
-        LocalVector::from_vec3_metres(o, a.sub(b))
+        LocalVector::from_vec3_metres(o, a - b)
     }
 
     pub fn mul(self, rhs: f64) -> Self
@@ -159,7 +159,7 @@ impl LocalVector {
     {
         let o = self.orientation;
         let a = self.as_metres();
-        LocalVector::from_vec3_metres(o, a.mul(rhs))
+        LocalVector::from_vec3_metres(o, a * rhs)
     }
 
     pub fn div(self, rhs: f64) -> Self
@@ -167,7 +167,7 @@ impl LocalVector {
     {
         let o = self.orientation;
         let a = self.as_metres();
-        LocalVector::from_vec3_metres(o, a.div(rhs))
+        LocalVector::from_vec3_metres(o, a / rhs)
     }
 
     pub fn neg(self) -> Self
@@ -175,7 +175,7 @@ impl LocalVector {
     {
         let o = self.orientation;
         let a = self.as_metres();
-        LocalVector::from_vec3_metres(o, a.neg())
+        LocalVector::from_vec3_metres(o, -a)
     }
 
     // East-north-up to north-east-down and back: `from` of the Rust, which has it for these two. Any other vector stays as it is.
@@ -199,8 +199,8 @@ fn aer_to_nez(azimuth: Angle, elevation: Angle, slant_range: Length) -> Nez
     ensures { result ≡ aer_to_nez azimuth elevation slant_range }
 {
     let cose = cos(elevation.0);
-    let east = slant_range.mul(sin(azimuth.0) * cose);
-    let north = slant_range.mul(cos(azimuth.0) * cose);
-    let z = slant_range.mul(sin(elevation.0));
+    let east = slant_range * (sin(azimuth.0) * cose);
+    let north = slant_range * (cos(azimuth.0) * cose);
+    let z = slant_range * sin(elevation.0);
     Nez { north, east, z }
 }

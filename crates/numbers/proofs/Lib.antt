@@ -27,3 +27,4 @@ pub mod DifferenceLaws
 pub mod SquareLaws
 pub mod Examples
 pub mod Computed
+pub mod EqualLaws

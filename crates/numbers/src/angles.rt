@@ -2,12 +2,13 @@
 ghost use Rattle.std.specs.Prelude.{◌≡◌};
 ghost use Rattle.std.specs.Float.Ieee as Ieee;
 ghost use Rattle.numbers.specs.Ops.{◌⊕◌, num, pick};
-ghost use Rattle.numbers.specs.Angles.{angle, from_degrees, as_degrees, angle_abs, angle_neg, angle_eq, raised, normalised_to};
+ghost use Rattle.numbers.specs.Angles.{angle, from_degrees, as_degrees, angle_abs, angle_neg, raised, normalised_to};
 ghost use Rattle.numbers.specs.Angles as Angles;
 
 use crate::Angle;
 use crate::float::{PI, abs, rem, to_degrees, to_radians};
 use crate::numbers::EPSILON;
+use std::ops::Neg;
 
 impl Angle {
     pub const ZERO: Angle = Angle(0.0);
@@ -80,18 +81,15 @@ impl Angle {
     {
         Angle(normalised_radians(self.0, max.0))
     }
+}
 
-    // `-` and `==` of the Rust.
-    pub fn neg(self) -> Self
-        ensures { result ≡ angle_neg self }
-    {
+impl Neg for Angle {
+    type Output = Angle;
+
+    ghost neg_gives = { λ a r. r ≡ angle_neg a };
+
+    fn neg(self) -> Angle {
         Angle(-self.0)
-    }
-
-    pub fn eq(self, rhs: Angle) -> bool
-        ensures { result ≡ angle_eq self rhs }
-    {
-        self.0 == rhs.0
     }
 }
 

@@ -4,6 +4,7 @@ ghost use Rattle.numbers.specs.Ops.{num};
 ghost use Rattle.numbers.specs.Lengths.{metres, length_neg, length_add, length_mul, length_div, length_over, length_abs};
 
 use crate::Length;
+use std::ops::{Add, Div, Mul, Neg};
 
 impl Length {
     pub const ZERO: Length = Length(0.0);
@@ -36,36 +37,55 @@ impl Length {
             Length::from_metres(-self.0)
         }
     }
+}
 
-    // `-`, `+`, `*` and `/` of the Rust. A number times a length is the length times it.
-    pub fn neg(self) -> Self
-        ensures { result ≡ length_neg self }
-    {
+impl Neg for Length {
+    type Output = Length;
+
+    ghost neg_gives = { λ a r. r ≡ length_neg a };
+
+    fn neg(self) -> Length {
         Length(-self.0)
     }
+}
 
-    pub fn add(self, rhs: Length) -> Self
-        ensures { result ≡ length_add self rhs }
-    {
+impl Add for Length {
+    type Output = Length;
+
+    ghost add_gives = { λ a b r. r ≡ length_add a b };
+
+    fn add(self, rhs: Length) -> Length {
         Length(self.0 + rhs.0)
     }
+}
 
-    pub fn mul(self, rhs: f64) -> Self
-        ensures { result ≡ length_mul self rhs }
-    {
+// A number times a length is the length times it.
+impl Mul<f64> for Length {
+    type Output = Length;
+
+    ghost mul_gives = { λ a k r. r ≡ length_mul a k };
+
+    fn mul(self, rhs: f64) -> Length {
         Length(self.0 * rhs)
     }
+}
 
-    pub fn div(self, rhs: Length) -> f64
-        ensures { result ≡ length_div self rhs }
-    {
+impl Div for Length {
+    type Output = f64;
+
+    ghost div_gives = { λ a b r. r ≡ length_div a b };
+
+    fn div(self, rhs: Length) -> f64 {
         self.0 / rhs.0
     }
+}
 
-    // `/` by a number.
-    pub fn div_f64(self, rhs: f64) -> Self
-        ensures { result ≡ length_over self rhs }
-    {
+impl Div<f64> for Length {
+    type Output = Length;
+
+    ghost div_gives = { λ a k r. r ≡ length_over a k };
+
+    fn div(self, rhs: f64) -> Length {
         Length(self.0 / rhs)
     }
 }

@@ -13,16 +13,18 @@ pub mod sine;
 mod units;
 pub mod vectors;
 
+// What the derived `==` of these types answers is `angle_eq`, `vec_eq` and `mat_eq` of specs, by proofs/EqualLaws.antt.
+
 // An angle: a wrapped number, in radians.
-#[derive(Clone, Copy)]
+#[derive(PartialEq, Clone, Copy, Debug)]
 pub struct Angle(pub f64);
 
 // A length: a wrapped number, in metres.
-#[derive(Clone, Copy)]
+#[derive(PartialEq, Clone, Copy, Debug)]
 pub struct Length(pub f64);
 
 // A 3-element vector.
-#[derive(Clone, Copy)]
+#[derive(PartialEq, Clone, Copy, Debug)]
 pub struct Vec3 {
     pub x: f64,
     pub y: f64,
@@ -30,7 +32,7 @@ pub struct Vec3 {
 }
 
 // A 3*3 matrix.
-#[derive(Clone, Copy)]
+#[derive(PartialEq, Clone, Copy, Debug)]
 pub struct Mat33 {
     pub r0: Vec3,
     pub r1: Vec3,

@@ -1,9 +1,10 @@
 // 3*3 matrices: the constant, and their products.
 ghost use Rattle.std.specs.Prelude.{◌≡◌};
 ghost use Rattle.numbers.specs.Mat as Mat;
-ghost use Rattle.numbers.specs.Mat.{mat, vec_mul_mat, mat_mul, mat_eq};
+ghost use Rattle.numbers.specs.Mat.{mat, vec_mul_mat, mat_mul};
 
 use crate::{Mat33, Vec3};
+use std::ops::Mul;
 
 impl Mat33 {
     pub const IDENTITY: Mat33 = Mat33 {
@@ -56,63 +57,26 @@ impl Mat33 {
             Vec3::new(self.r0.z, self.r1.z, self.r2.z),
         )
     }
+}
 
-    // `*` and `==` of the Rust.
-    pub fn mul(self, rhs: Mat33) -> Self
-        ensures { result ≡ mat_mul self rhs }
-    {
+impl Mul for Mat33 {
+    type Output = Mat33;
+
+    ghost mul_gives = { λ a b r. r ≡ mat_mul a b };
+
+    fn mul(self, rhs: Mat33) -> Mat33 {
         let t2 = rhs.transpose();
-        let m1r0 = self.r0;
-        let m1r1 = self.r1;
-        let m1r2 = self.r2;
-
-        let t2r0 = t2.r0;
-        let t2r1 = t2.r1;
-        let t2r2 = t2.r2;
-
-        let mr0 = Vec3::new(
-            m1r0.dot_prod(t2r0),
-            m1r0.dot_prod(t2r1),
-            m1r0.dot_prod(t2r2),
-        );
-        let mr1 = Vec3::new(
-            m1r1.dot_prod(t2r0),
-            m1r1.dot_prod(t2r1),
-            m1r1.dot_prod(t2r2),
-        );
-        let mr2 = Vec3::new(
-            m1r2.dot_prod(t2r0),
-            m1r2.dot_prod(t2r1),
-            m1r2.dot_prod(t2r2),
-        );
-
-        Mat33::new(mr0, mr1, mr2)
-    }
-
-    pub fn eq(self, rhs: Mat33) -> bool
-        ensures { result ≡ mat_eq self rhs }
-    {
-        let a0 = self.r0;
-        let b0 = rhs.r0;
-        if a0.eq(b0) {
-            let a1 = self.r1;
-            let b1 = rhs.r1;
-            if a1.eq(b1) {
-                let a2 = self.r2;
-                let b2 = rhs.r2;
-                return a2.eq(b2);
-            }
-            return false;
-        }
-        false
+        Mat33::new(self.r0 * t2, self.r1 * t2, self.r2 * t2)
     }
 }
 
-impl Vec3 {
-    // A vector times a matrix, `*` of the Rust: its dot products with the rows.
-    pub fn mul_mat33(self, rhs: Mat33) -> Vec3
-        ensures { result ≡ vec_mul_mat self rhs }
-    {
+// A vector times a matrix: its dot products with the rows.
+impl Mul<Mat33> for Vec3 {
+    type Output = Vec3;
+
+    ghost mul_gives = { λ v m r. r ≡ vec_mul_mat v m };
+
+    fn mul(self, rhs: Mat33) -> Vec3 {
         let r0 = rhs.r0;
         let r1 = rhs.r1;
         let r2 = rhs.r2;

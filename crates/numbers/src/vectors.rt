@@ -1,11 +1,12 @@
 // 3-element vectors: their constants, products and operators.
 ghost use Rattle.std.specs.Prelude.{◌≡◌};
 ghost use Rattle.numbers.specs.Vec as Vec;
-ghost use Rattle.numbers.specs.Vec.{vec, new_unit, cross_prod, cross_prod_unit, dot_prod, vec_eq, orthogonal_to, stable_cross_prod, stable_cross_prod_unit, squared_norm, vec_add, vec_sub, vec_mul, vec_div, vec_neg};
+ghost use Rattle.numbers.specs.Vec.{vec, new_unit, cross_prod, cross_prod_unit, dot_prod, orthogonal_to, stable_cross_prod, stable_cross_prod_unit, squared_norm, vec_add, vec_sub, vec_mul, vec_div, vec_neg};
 
 use crate::Vec3;
 use crate::float::abs;
 use crate::root::sqrt;
+use std::ops::{Add, Div, Mul, Neg, Sub};
 
 impl Vec3 {
     pub const UNIT_X: Vec3 = Vec3 {
@@ -133,7 +134,7 @@ impl Vec3 {
         ensures { result ≡ orthogonal_to self o }
     {
         let r = self.stable_cross_prod_unit(o);
-        if r.eq(Vec3::ZERO) {
+        if r == Vec3::ZERO {
             self.orthogonal()
         } else {
             r
@@ -215,50 +216,58 @@ impl Vec3 {
             Vec3::ZERO
         } else {
             let s = 1.0 / n;
-            self.mul(s)
+            self * s
         }
     }
+}
 
-    // `+`, `-`, `*`, `/`, `-` and `==` of the Rust. A number times a vector is the vector times it.
-    pub fn add(self, rhs: Self) -> Self
-        ensures { result ≡ vec_add self rhs }
-    {
+impl Add for Vec3 {
+    type Output = Vec3;
+
+    ghost add_gives = { λ a b r. r ≡ vec_add a b };
+
+    fn add(self, rhs: Vec3) -> Vec3 {
         Vec3::new(self.x + rhs.x, self.y + rhs.y, self.z + rhs.z)
     }
+}
 
-    pub fn sub(self, rhs: Self) -> Self
-        ensures { result ≡ vec_sub self rhs }
-    {
+impl Sub for Vec3 {
+    type Output = Vec3;
+
+    ghost sub_gives = { λ a b r. r ≡ vec_sub a b };
+
+    fn sub(self, rhs: Vec3) -> Vec3 {
         Vec3::new(self.x - rhs.x, self.y - rhs.y, self.z - rhs.z)
     }
+}
 
-    pub fn mul(self, rhs: f64) -> Self
-        ensures { result ≡ vec_mul self rhs }
-    {
+// A number times a vector is the vector times it.
+impl Mul<f64> for Vec3 {
+    type Output = Vec3;
+
+    ghost mul_gives = { λ a k r. r ≡ vec_mul a k };
+
+    fn mul(self, rhs: f64) -> Vec3 {
         Vec3::new(self.x * rhs, self.y * rhs, self.z * rhs)
     }
+}
 
-    pub fn div(self, rhs: f64) -> Self
-        ensures { result ≡ vec_div self rhs }
-    {
+impl Div<f64> for Vec3 {
+    type Output = Vec3;
+
+    ghost div_gives = { λ a k r. r ≡ vec_div a k };
+
+    fn div(self, rhs: f64) -> Vec3 {
         Vec3::new(self.x / rhs, self.y / rhs, self.z / rhs)
     }
+}
 
-    pub fn neg(self) -> Self
-        ensures { result ≡ vec_neg self }
-    {
+impl Neg for Vec3 {
+    type Output = Vec3;
+
+    ghost neg_gives = { λ a r. r ≡ vec_neg a };
+
+    fn neg(self) -> Vec3 {
         Vec3::new(-self.x, -self.y, -self.z)
-    }
-
-    pub fn eq(self, rhs: Self) -> bool
-        ensures { result ≡ vec_eq self rhs }
-    {
-        if self.x == rhs.x {
-            if self.y == rhs.y {
-                return self.z == rhs.z;
-            }
-            return false;
-        }
-        false
     }
 }

@@ -59,7 +59,7 @@ pub fn example_2(rt: &impl Print) -> io::Result<()> {
 // Geocentric to geodetic.
 pub fn example_3(rt: &impl Print) -> io::Result<()> {
     let earth = Ellipsoid::wgs84();
-    let p = GeocentricPosition::from_vec3_metres(Vec3::new(0.9, -1.0, 1.1).mul(6371000.0));
+    let p = GeocentricPosition::from_vec3_metres(Vec3::new(0.9, -1.0, 1.1) * 6371000.0);
     let d = earth.geocentric_to_geodetic_position(p);
     let ll = LatLong::from_nvector(d.hp);
     figure(

@@ -91,14 +91,14 @@ pub fn lengths(rt: &impl Print) -> io::Result<()> {
     figure(
         rt,
         b"jord-rs 4 m / 2 is 2 m",
-        Length(4.0).div_f64(2.0).0,
+        (Length(4.0) / 2.0).0,
         2.0,
         0.0,
     )?;
     figure(
         rt,
         b"jord-rs 1 m + 2 m is 3 m",
-        Length(1.0).add(Length(2.0)).0,
+        (Length(1.0) + Length(2.0)).0,
         3.0,
         0.0,
     )

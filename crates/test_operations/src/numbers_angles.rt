@@ -23,12 +23,12 @@ pub fn angles(op: u64, a: [u64; 32]) -> [u64; 24]
         19 => number(p.abs().0),
         20 => number(p.normalised().0),
         21 => number(p.normalised_to(q).0),
-        22 => number(p.neg().0),
-        23 => truth(p.eq(q)),
+        22 => number((-p).0),
+        23 => truth(p == q),
         24 => number(l.abs().0),
-        25 => number(l.neg().0),
-        26 => number(l.mul(y).0),
-        27 => number(l.div(Length(y))),
+        25 => number((-l).0),
+        26 => number((l * y).0),
+        27 => number(l / Length(y)),
         _ => vectors(op, a),
     }
 }

@@ -15,9 +15,9 @@ pub fn matrices(op: u64, a: [u64; 32]) -> [u64; 24]
 {
     match op {
         45 => matrix(matrix_at(a, 0).transpose()),
-        46 => matrix(matrix_at(a, 0).mul(matrix_at(a, 9))),
-        47 => truth(matrix_at(a, 0).eq(matrix_at(a, 9))),
-        48 => vector(vector_at(a, 0).mul_mat33(matrix_at(a, 3))),
+        46 => matrix(matrix_at(a, 0) * matrix_at(a, 9)),
+        47 => truth(matrix_at(a, 0) == matrix_at(a, 9)),
+        48 => vector(vector_at(a, 0) * matrix_at(a, 3)),
         49 => angle_constants(),
         50 => vector_constants(),
         51 => matrix(Mat33::IDENTITY),

@@ -14,9 +14,9 @@ pub fn quotients(op: u64, a: [u64; 32]) -> [u64; 24]
     let x = double_at(a, 0);
     let y = double_at(a, 1);
     match op {
-        59 => vector(vector_at(a, 0).div(double_at(a, 3))),
-        60 => number(Length(x).div_f64(y).0),
-        61 => number(Length(x).add(Length(y)).0),
+        59 => vector(vector_at(a, 0) / double_at(a, 3)),
+        60 => number((Length(x) / y).0),
+        61 => number((Length(x) + Length(y)).0),
         _ => [0u64; 24],
     }
 }

@@ -27,11 +27,11 @@ pub fn vectors(op: u64, a: [u64; 32]) -> [u64; 24]
         37 => vector(v.stable_cross_prod(w)),
         38 => number(v.squared_norm()),
         39 => vector(v.unit()),
-        40 => vector(v.add(w)),
-        41 => vector(v.sub(w)),
-        42 => vector(v.mul(w.x)),
-        43 => vector(v.neg()),
-        44 => truth(v.eq(w)),
+        40 => vector(v + w),
+        41 => vector(v - w),
+        42 => vector(v * w.x),
+        43 => vector(-v),
+        44 => truth(v == w),
         _ => matrices(op, a),
     }
 }

@@ -12,7 +12,7 @@ fn is_clear(least: f64, v: Vec3, place: usize, floats: &[f64; 2940], shown: &[u8
 {
     if shown[place] == 1 {
         let w = position_at(floats, 21 * place).as_metres();
-        let between = v.sub(w);
+        let between = v - w;
         if least * least < between.squared_norm() {
             return true;
         }

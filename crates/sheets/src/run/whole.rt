@@ -65,7 +65,7 @@ fn plus(sum: Length, v: Value) -> Length
     let Value::Metres(x) = v else {
         return sum;
     };
-    sum.add(x)
+    sum + x
 }
 
 // A show of a value, which stands at a place among the names: the place of a g is kept, and a length goes into the sum.

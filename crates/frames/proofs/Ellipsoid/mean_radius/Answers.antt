@@ -6,4 +6,4 @@ use Rattle.frames.proofs.Ellipsoid.mean_radius.Goals as goal
 
 pub returns : goal.returns
 unfolding of_bits decimal mean_radius
-returns c = simp (c.div_f64.ensures, c.add-sum.ensures, c.mul.ensures)
+returns c = simp (c.div.ensures, c.add-sum.ensures, c.mul.ensures)

@@ -4,4 +4,4 @@ use Rattle.frames.proofs.LocalFrame.local_vector_to.Goals as goal
 
 pub returns : goal.returns
 unfolding local_vector_to
-returns c = simp (c.from_vec3_metres.ensures, c.mul_mat33-d.ensures, c.sub-de.ensures, c.as_metres-t_vec3.ensures)
+returns c = simp (c.from_vec3_metres.ensures, c.mul-d.ensures, c.sub-de.ensures, c.as_metres-t_vec3.ensures)

@@ -5,6 +5,7 @@ use Rattle.numbers.specs.Ops.{decimal}
 use Rattle.test_operations.specs.Rows.{answered}
 use Rattle.test_operations.specs.NumbersTable.{matrix_rows}
 use Rattle.test_operations.specs.Words.{padded}
+use Rattle.numbers.proofs.EqualLaws.{equal_matrices}
 use Rattle.test_operations.proofs.RowLaws.{skipped}
 use Rattle.test_operations.proofs.numbers_matrices.matrices.Goals as goal
 
@@ -18,11 +19,11 @@ returns-in-46 c = rw c.in-46.is (simp (c.matrix-in-46.ensures, c.mul.ensures, c.
 
 pub returns-in-47 : goal.returns-in-47
 unfolding answered matrix_rows
-returns-in-47 c = rw c.in-47.is (simp (c.truth.ensures, c.eq.ensures, c.matrix_at-in-47-2.ensures, c.matrix_at-in-47.ensures))
+returns-in-47 c = rw c.in-47.is (simp (c.truth.ensures, c.eq.ensures ∙ equal_matrices _ _, c.matrix_at-in-47-2.ensures, c.matrix_at-in-47.ensures))
 
 pub returns-in-48 : goal.returns-in-48
 unfolding answered matrix_rows
-returns-in-48 c = rw c.in-48.is (simp (c.vector.ensures, c.mul_mat33.ensures, c.matrix_at-in-48.ensures, c.vector_at.ensures))
+returns-in-48 c = rw c.in-48.is (simp (c.vector.ensures, c.mul-in-48.ensures, c.matrix_at-in-48.ensures, c.vector_at.ensures))
 
 pub returns-in-49 : goal.returns-in-49
 unfolding answered matrix_rows

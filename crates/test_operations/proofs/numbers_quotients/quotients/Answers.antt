@@ -12,7 +12,7 @@ returns-in-59 c = rw c.in-59.is (simp (c.vector.ensures, c.div.ensures, c.double
 
 pub returns-in-60 : goal.returns-in-60
 unfolding answered quotient_rows
-returns-in-60 c = rw c.in-60.is (simp (c.number.ensures, c.div_f64.ensures, c.double_at-y.ensures, c.double_at-x.ensures))
+returns-in-60 c = rw c.in-60.is (simp (c.number.ensures, c.div-in-60.ensures, c.double_at-y.ensures, c.double_at-x.ensures))
 
 pub returns-in-61 : goal.returns-in-61
 unfolding answered quotient_rows

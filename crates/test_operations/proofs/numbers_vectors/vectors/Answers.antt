@@ -4,6 +4,7 @@ use Rattle.test_operations.specs.Rows.{answered}
 use Rattle.test_operations.specs.NumbersTable.{vector_rows}
 use Rattle.test_operations.specs.Words.{vector_at}
 use Rattle.test_operations.specs.Words.{padded}
+use Rattle.numbers.proofs.EqualLaws.{equal_vectors}
 use Rattle.test_operations.proofs.RowLaws.{skipped}
 use Rattle.test_operations.proofs.numbers_vectors.vectors.Goals as goal
 
@@ -73,7 +74,7 @@ returns-in-43 c = rw c.in-43.is (simp (c.vector-in-43.ensures, c.neg.ensures, c.
 
 pub returns-in-44 : goal.returns-in-44
 unfolding answered vector_rows
-returns-in-44 c = rw c.in-44.is (simp (c.truth.ensures, c.eq.ensures, c.vector_at-w.ensures, c.vector_at-v.ensures))
+returns-in-44 c = rw c.in-44.is (simp (c.truth.ensures, c.eq.ensures ∙ equal_vectors _ _, c.vector_at-w.ensures, c.vector_at-v.ensures))
 
 pub returns-in_default : goal.returns-in_default
 unfolding answered vector_rows

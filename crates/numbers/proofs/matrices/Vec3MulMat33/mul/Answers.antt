@@ -1,6 +1,6 @@
--- `numbers::Vec3::mul_mat33` meets its contract. Assumes nothing.
+-- `numbers::matrices::Vec3MulMat33::mul` meets its contract. Assumes nothing.
 use Rattle.numbers.specs.Mat.{vec_mul_mat}
-use Rattle.numbers.proofs.Vec3.mul_mat33.Goals as goal
+use Rattle.numbers.proofs.matrices.Vec3MulMat33.mul.Goals as goal
 
 pub returns : goal.returns
 unfolding vec_mul_mat
