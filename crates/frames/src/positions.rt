@@ -180,6 +180,22 @@ impl NVector {
     }
 }
 
+impl From<LatLong> for NVector {
+    ghost from_gives = { λ l n. n ≡ Positions.nvector (latlong_to_nvector l.latitude l.longitude) };
+
+    fn from(value: LatLong) -> Self {
+        value.to_nvector()
+    }
+}
+
+impl From<NVector> for LatLong {
+    ghost from_gives = { λ n l. l ≡ nvector_to_latlong n.0 };
+
+    fn from(value: NVector) -> Self {
+        LatLong::from_nvector(value)
+    }
+}
+
 fn nvector_to_latlong(nvector: Vec3) -> LatLong
     ensures { result ≡ nvector_to_latlong nvector }
 {
