@@ -1,205 +1,99 @@
 // Local Cartesian frames: made at a position, turned, and moved along. A vector is read in the frame's axes, whatever orientation it says.
 ghost use Rattle.std.specs.Prelude.{◌≡◌};
 ghost use Rattle.frames.specs.Frames as Frames;
-ghost use Rattle.frames.specs.Frames.{new_enu, new_ned, new_body, new_wander_azimuth, enu_from_geocentric, enu_from_geodetic, ned_from_geocentric, ned_from_geodetic, body_from_geocentric, body_from_geodetic, wander_azimuth_from_geocentric, wander_azimuth_from_geodetic, looking_at, looking_at_geocentric, looking_at_geodetic, rotate_around_z, frame_origin, local_vector_to, destination_position};
+ghost use Rattle.numbers.specs.Mat.{mat_mul};
+ghost use Rattle.frames.specs.Rotations.{zyx2r};
+ghost use Rattle.frames.specs.Frames.{by_direction, new_enu, new_ned, new_body, new_wander_azimuth, looking_at, rotate_around_z, frame_origin, local_vector_to, destination_position};
+ghost use Rattle.frames.specs.declared.Orientation.TheVariants.{Body};
 
 use crate::orientations::align_to_z_down_matrix;
+use crate::positions::Position;
 use crate::rotation::{xyz2r, zyx2r};
-use crate::{
-    Ellipsoid, GeocentricPosition, GeodeticPosition, LatLong, LocalFrame, LocalVector, Orientation,
-};
+use crate::{Ellipsoid, GeocentricPosition, LatLong, LocalFrame, LocalVector, Orientation};
 use numbers::{Angle, Mat33, Vec3};
 
-// East-north-up.
+// The frames of a position, in either of its forms. The Rust has two constructors of each, `from_geocentric` and `from_geodetic`.
 impl LocalFrame {
-    pub fn enu_from_geocentric(origin: GeocentricPosition, surface: Ellipsoid) -> Self
-        ensures { result ≡ enu_from_geocentric origin surface }
+    // East-north-up.
+    pub fn enu<P: Position>(origin: P, surface: Ellipsoid) -> Self
+        ensures { result ≡ new_enu (P.geodetic_on origin surface) (P.geocentric_on origin surface) }
     {
-        let o_geod = surface.geocentric_to_geodetic_position(origin);
-        LocalFrame::new_enu(o_geod, origin)
-    }
-
-    pub fn enu_from_geodetic(origin: GeodeticPosition, surface: Ellipsoid) -> Self
-        ensures { result ≡ enu_from_geodetic origin surface }
-    {
-        let o_geoc = surface.geodetic_to_geocentric_position(origin);
-        LocalFrame::new_enu(origin, o_geoc)
-    }
-
-    fn new_enu(o_geod: GeodeticPosition, o_geoc: GeocentricPosition) -> Self
-        ensures { result ≡ new_enu o_geod o_geoc }
-    {
-        let vo = o_geod.hp.0;
+        let vo = origin.to_geodetic(surface).hp.0;
         let ru = vo;
         let re = Vec3::UNIT_Z.orthogonal_to(vo);
         let rn = ru.cross_prod(re);
         let inv_rm = Mat33::new(re, rn, ru);
         LocalFrame {
-            origin: o_geoc.as_metres(),
+            origin: origin.to_geocentric(surface).as_metres(),
             dir_rm: inv_rm.transpose(),
             inv_rm,
             orientation: Orientation::Enu,
         }
     }
-}
 
-// North-east-down.
-impl LocalFrame {
-    pub fn ned_from_geocentric(origin: GeocentricPosition, surface: Ellipsoid) -> Self
-        ensures { result ≡ ned_from_geocentric origin surface }
+    // North-east-down.
+    pub fn ned<P: Position>(origin: P, surface: Ellipsoid) -> Self
+        ensures { result ≡ new_ned (P.geodetic_on origin surface) (P.geocentric_on origin surface) }
     {
-        let o_geod = surface.geocentric_to_geodetic_position(origin);
-        LocalFrame::new_ned(o_geod, origin)
-    }
-
-    pub fn ned_from_geodetic(origin: GeodeticPosition, surface: Ellipsoid) -> Self
-        ensures { result ≡ ned_from_geodetic origin surface }
-    {
-        let o_geoc = surface.geodetic_to_geocentric_position(origin);
-        LocalFrame::new_ned(origin, o_geoc)
-    }
-
-    fn new_ned(o_geod: GeodeticPosition, o_geoc: GeocentricPosition) -> Self
-        ensures { result ≡ new_ned o_geod o_geoc }
-    {
-        let vo = o_geod.hp.0;
+        let vo = origin.to_geodetic(surface).hp.0;
         let rd = vo * -1.0;
         let re = Vec3::UNIT_Z.orthogonal_to(vo);
         let rn = re.cross_prod(rd);
         let inv_rm = Mat33::new(rn, re, rd);
         LocalFrame {
-            origin: o_geoc.as_metres(),
+            origin: origin.to_geocentric(surface).as_metres(),
             dir_rm: inv_rm.transpose(),
             inv_rm,
             orientation: Orientation::Ned,
         }
     }
-}
 
-// A vehicle's body.
-impl LocalFrame {
-    pub fn body_from_geocentric(
+    // A vehicle's body.
+    pub fn body<P: Position>(
         yaw: Angle,
         pitch: Angle,
         roll: Angle,
-        origin: GeocentricPosition,
+        origin: P,
         surface: Ellipsoid,
     ) -> Self
-        ensures { result ≡ body_from_geocentric yaw pitch roll origin surface }
+        ensures { result ≡ new_body yaw pitch roll (P.geodetic_on origin surface) (P.geocentric_on origin surface) }
     {
-        let o_geod = surface.geocentric_to_geodetic_position(origin);
-        LocalFrame::new_body(yaw, pitch, roll, o_geod, origin)
+        LocalFrame::ned(origin, surface).turned(yaw, pitch, roll)
     }
 
-    pub fn body_from_geodetic(
-        yaw: Angle,
-        pitch: Angle,
-        roll: Angle,
-        origin: GeodeticPosition,
-        surface: Ellipsoid,
-    ) -> Self
-        ensures { result ≡ body_from_geodetic yaw pitch roll origin surface }
+    // The body whose nose points at the target.
+    pub fn looking_at<P: Position>(origin: P, target: P, roll: Angle, surface: Ellipsoid) -> Self
+        ensures { result ≡ looking_at (P.geodetic_on origin surface) (P.geocentric_on origin surface) (P.geocentric_on target surface) roll }
     {
-        let o_geoc = surface.geodetic_to_geocentric_position(origin);
-        LocalFrame::new_body(yaw, pitch, roll, origin, o_geoc)
+        let ned = LocalFrame::ned(origin, surface);
+        let delta = ned.local_vector_to(target.to_geocentric(surface));
+        ned.turned(delta.bearing(), delta.elevation(), roll)
     }
 
-    pub fn looking_at_geodetic(
-        origin: GeodeticPosition,
-        target: GeodeticPosition,
-        roll: Angle,
-        surface: Ellipsoid,
-    ) -> Self
-        ensures { result ≡ looking_at_geodetic origin target roll surface }
-    {
-        let o_geoc = surface.geodetic_to_geocentric_position(origin);
-        let t_geoc = surface.geodetic_to_geocentric_position(target);
-        LocalFrame::looking_at(origin, o_geoc, t_geoc, roll)
-    }
-
-    pub fn looking_at_geocentric(
-        origin: GeocentricPosition,
-        target: GeocentricPosition,
-        roll: Angle,
-        surface: Ellipsoid,
-    ) -> Self
-        ensures { result ≡ looking_at_geocentric origin target roll surface }
-    {
-        let o_geod = surface.geocentric_to_geodetic_position(origin);
-        LocalFrame::looking_at(o_geod, origin, target, roll)
-    }
-
-    fn new_body(
-        yaw: Angle,
-        pitch: Angle,
-        roll: Angle,
-        o_geod: GeodeticPosition,
-        o_geoc: GeocentricPosition,
-    ) -> Self
-        ensures { result ≡ new_body yaw pitch roll o_geod o_geoc }
+    // The body frame at this north-east-down frame's origin.
+    fn turned(self, yaw: Angle, pitch: Angle, roll: Angle) -> Self
+        ensures { result ≡ by_direction Body self.origin (mat_mul self.dir_rm (zyx2r yaw pitch roll)) }
     {
         let r_nb = zyx2r(yaw, pitch, roll);
-        let r_en = LocalFrame::new_ned(o_geod, o_geoc).dir_rm;
+        let r_en = self.dir_rm;
         let dir_rm = r_en * r_nb;
         LocalFrame {
-            origin: o_geoc.as_metres(),
+            origin: self.origin,
             dir_rm,
             inv_rm: dir_rm.transpose(),
             orientation: Orientation::Body,
         }
     }
 
-    fn looking_at(
-        o_geod: GeodeticPosition,
-        o_geoc: GeocentricPosition,
-        target: GeocentricPosition,
-        roll: Angle,
-    ) -> Self
-        ensures { result ≡ looking_at o_geod o_geoc target roll }
+    pub fn wander_azimuth<P: Position>(wander_azimuth: Angle, origin: P, surface: Ellipsoid) -> Self
+        ensures { result ≡ new_wander_azimuth wander_azimuth (P.geodetic_on origin surface) (P.geocentric_on origin surface) }
     {
-        let ned = LocalFrame::new_ned(o_geod, o_geoc);
-        let delta = ned.local_vector_to(target);
-        LocalFrame::new_body(delta.bearing(), delta.elevation(), roll, o_geod, o_geoc)
-    }
-}
-
-// Wander azimuth.
-impl LocalFrame {
-    pub fn wander_azimuth_from_geocentric(
-        wander_azimuth: Angle,
-        origin: GeocentricPosition,
-        surface: Ellipsoid,
-    ) -> Self
-        ensures { result ≡ wander_azimuth_from_geocentric wander_azimuth origin surface }
-    {
-        let o_geod = surface.geocentric_to_geodetic_position(origin);
-        LocalFrame::new_wander_azimuth(wander_azimuth, o_geod, origin)
-    }
-
-    pub fn wander_azimuth_from_geodetic(
-        wander_azimuth: Angle,
-        origin: GeodeticPosition,
-        surface: Ellipsoid,
-    ) -> Self
-        ensures { result ≡ wander_azimuth_from_geodetic wander_azimuth origin surface }
-    {
-        let o_geoc = surface.geodetic_to_geocentric_position(origin);
-        LocalFrame::new_wander_azimuth(wander_azimuth, origin, o_geoc)
-    }
-
-    fn new_wander_azimuth(
-        wander_azimuth: Angle,
-        o_geod: GeodeticPosition,
-        o_geoc: GeocentricPosition,
-    ) -> Self
-        ensures { result ≡ new_wander_azimuth wander_azimuth o_geod o_geoc }
-    {
-        let ll = LatLong::from_nvector(o_geod.hp);
+        let ll = LatLong::from_nvector(origin.to_geodetic(surface).hp);
         let r = xyz2r(ll.longitude, -ll.latitude, wander_azimuth);
         let r_ee = Mat33::new(Vec3::NEG_UNIT_Z, Vec3::UNIT_Y, Vec3::UNIT_X);
         let dir_rm = r_ee * r;
         LocalFrame {
-            origin: o_geoc.as_metres(),
+            origin: origin.to_geocentric(surface).as_metres(),
             dir_rm,
             inv_rm: dir_rm.transpose(),
             orientation: Orientation::Wan,

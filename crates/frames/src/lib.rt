@@ -11,7 +11,7 @@ pub mod vector;
 use numbers::{Angle, Length, Mat33, Vec3};
 
 // Earth-centred, Earth-fixed.
-#[derive(Clone, Copy)]
+#[derive(PartialEq, Clone, Copy, Debug)]
 pub struct GeocentricPosition {
     pub x: Length,
     pub y: Length,
@@ -19,25 +19,25 @@ pub struct GeocentricPosition {
 }
 
 // The horizontal position, and the height above the surface.
-#[derive(Clone, Copy)]
+#[derive(PartialEq, Clone, Copy, Debug)]
 pub struct GeodeticPosition {
     pub hp: NVector,
     pub height: Length,
 }
 
 // A horizontal position as a latitude and a longitude.
-#[derive(Clone, Copy)]
+#[derive(PartialEq, Clone, Copy, Debug)]
 pub struct LatLong {
     pub latitude: Angle,
     pub longitude: Angle,
 }
 
 // The unit normal to the surface: z to the North Pole, x to latitude and longitude 0.
-#[derive(Clone, Copy)]
+#[derive(PartialEq, Clone, Copy, Debug)]
 pub struct NVector(pub Vec3);
 
 // An ellipsoid of revolution.
-#[derive(Clone, Copy)]
+#[derive(PartialEq, Clone, Copy, Debug)]
 pub struct Ellipsoid {
     pub equatorial_radius: Length,
     pub polar_radius: Length,
@@ -46,7 +46,7 @@ pub struct Ellipsoid {
 }
 
 // East-north-up, north-east-down, a vehicle's body, wander azimuth.
-#[derive(Clone, Copy)]
+#[derive(PartialEq, Eq, Clone, Copy, Debug)]
 pub enum Orientation {
     Enu,
     Ned,
@@ -55,7 +55,7 @@ pub enum Orientation {
 }
 
 // A vector in a local frame, with its orientation where the Rust has a type parameter.
-#[derive(Clone, Copy)]
+#[derive(PartialEq, Clone, Copy, Debug)]
 pub struct LocalVector {
     pub x: Length,
     pub y: Length,
@@ -65,7 +65,7 @@ pub struct LocalVector {
 
 // A local Cartesian frame: its origin, and the matrices from its axes to the Earth's and back.
 // The orientation stands where the Rust has a type parameter.
-#[derive(Clone, Copy)]
+#[derive(PartialEq, Clone, Copy, Debug)]
 pub struct LocalFrame {
     pub origin: Vec3,
     pub dir_rm: Mat33,
@@ -74,7 +74,7 @@ pub struct LocalFrame {
 }
 
 // Angles about the x, the new y and the newest z axis.
-#[derive(Clone, Copy)]
+#[derive(PartialEq, Clone, Copy, Debug)]
 pub struct Xyz {
     pub x: Angle,
     pub y: Angle,
@@ -82,7 +82,7 @@ pub struct Xyz {
 }
 
 // Angles about the z, the new y and the newest x axis: yaw, pitch and roll from north-east-down to body.
-#[derive(Clone, Copy)]
+#[derive(PartialEq, Clone, Copy, Debug)]
 pub struct Zyx {
     pub z: Angle,
     pub y: Angle,

@@ -9,12 +9,7 @@ impl Orientation {
     pub fn is_z_up(self) -> bool
         ensures { result ≡ is_z_up self }
     {
-        match self {
-            Orientation::Enu => true,
-            Orientation::Ned => false,
-            Orientation::Body => false,
-            Orientation::Wan => false,
-        }
+        self == Orientation::Enu
     }
 }
 

@@ -1,13 +1,58 @@
 // Positions: geocentric, geodetic, and horizontal ones as an n-vector or as a latitude and a longitude.
 ghost use Rattle.std.specs.Prelude.{◌≡◌};
+ghost use Rattle.frames.specs.declared.Ellipsoid.{Ellipsoid};
+ghost use Rattle.frames.specs.declared.GeocentricPosition.{GeocentricPosition};
+ghost use Rattle.frames.specs.declared.GeodeticPosition.{GeodeticPosition};
+ghost use Rattle.frames.specs.Ellipsoids.{geodetic_to_geocentric, geocentric_to_geodetic};
 ghost use Rattle.frames.specs.Positions as Positions;
 ghost use Rattle.frames.specs.Positions.{geocentric, geocentric_from_metres, geocentric_from_vec3, geocentric_as_metres, geodetic, lat_long, nvector_to_latlong, latlong_to_nvector};
 
-use crate::{GeocentricPosition, GeodeticPosition, LatLong, NVector};
+use crate::{Ellipsoid, GeocentricPosition, GeodeticPosition, LatLong, NVector};
 use numbers::arctangent::atan2;
 use numbers::root::sqrt;
 use numbers::sine::{cos, sin};
 use numbers::{Angle, Length, Vec3};
+
+// A position that has both forms on a surface: one is its own, and the other the surface's conversion.
+pub trait Position: Copy {
+    ghost geodetic_on: { Self → Ellipsoid → GeodeticPosition };
+
+    ghost geocentric_on: { Self → Ellipsoid → GeocentricPosition };
+
+    fn to_geodetic(self, surface: Ellipsoid) -> GeodeticPosition
+        ensures { result ≡ geodetic_on self surface };
+
+    fn to_geocentric(self, surface: Ellipsoid) -> GeocentricPosition
+        ensures { result ≡ geocentric_on self surface };
+}
+
+impl Position for GeocentricPosition {
+    ghost geodetic_on = { λ g l. geocentric_to_geodetic l g };
+
+    ghost geocentric_on = { λ g l. g };
+
+    fn to_geodetic(self, surface: Ellipsoid) -> GeodeticPosition {
+        surface.geocentric_to_geodetic_position(self)
+    }
+
+    fn to_geocentric(self, _surface: Ellipsoid) -> GeocentricPosition {
+        self
+    }
+}
+
+impl Position for GeodeticPosition {
+    ghost geodetic_on = { λ d l. d };
+
+    ghost geocentric_on = { λ d l. geodetic_to_geocentric l d };
+
+    fn to_geodetic(self, _surface: Ellipsoid) -> GeodeticPosition {
+        self
+    }
+
+    fn to_geocentric(self, surface: Ellipsoid) -> GeocentricPosition {
+        surface.geodetic_to_geocentric_position(self)
+    }
+}
 
 impl GeocentricPosition {
     pub fn new(x: Length, y: Length, z: Length) -> Self
@@ -132,6 +177,22 @@ impl NVector {
         ensures { result ≡ self.0 }
     {
         self.0
+    }
+}
+
+impl From<LatLong> for NVector {
+    ghost from_gives = { λ l n. n ≡ Positions.nvector (latlong_to_nvector l.latitude l.longitude) };
+
+    fn from(value: LatLong) -> Self {
+        value.to_nvector()
+    }
+}
+
+impl From<NVector> for LatLong {
+    ghost from_gives = { λ n l. l ≡ nvector_to_latlong n.0 };
+
+    fn from(value: NVector) -> Self {
+        LatLong::from_nvector(value)
     }
 }
 

@@ -1,4 +1,4 @@
-// Vectors in a local frame. A sum and a difference have the first one's orientation.
+// Vectors in a local frame.
 ghost use Rattle.std.specs.Prelude.{◌≡◌};
 ghost use Rattle.frames.specs.Vectors as Vectors;
 ghost use Rattle.frames.specs.Vectors.{local_vector, local_from_metres, local_from_vec3, local_as_metres, local_zero, local_neg, local_add, local_sub, local_mul, local_div, from_aer, aer_to_nez, slant_range};
@@ -9,6 +9,7 @@ use numbers::float::clamp_unit;
 use numbers::numbers::eq_zero;
 use numbers::sine::{cos, sin};
 use numbers::{Angle, Length, Vec3};
+use std::ops::{Add, Div, Mul, Neg, Sub};
 
 // North, east and up.
 #[derive(Clone, Copy)]
@@ -135,49 +136,6 @@ impl LocalVector {
         Vec3::new(self.x.0, self.y.0, self.z.0)
     }
 
-    // `+`, `-`, `*`, `/` and `-` of the Rust. A number times a vector is the vector times it.
-    pub fn add(self, rhs: Self) -> Self
-        ensures { result ≡ local_add self rhs }
-    {
-        let o = self.orientation;
-        let a = self.as_metres();
-        let b = rhs.as_metres();
-        LocalVector::from_vec3_metres(o, a + b)
-    }
-
-    pub fn sub(self, rhs: Self) -> Self
-        ensures { result ≡ local_sub self rhs }
-    {
-        let o = self.orientation;
-        let a = self.as_metres();
-        let b = rhs.as_metres();
-        LocalVector::from_vec3_metres(o, a - b)
-    }
-
-    pub fn mul(self, rhs: f64) -> Self
-        ensures { result ≡ local_mul self rhs }
-    {
-        let o = self.orientation;
-        let a = self.as_metres();
-        LocalVector::from_vec3_metres(o, a * rhs)
-    }
-
-    pub fn div(self, rhs: f64) -> Self
-        ensures { result ≡ local_div self rhs }
-    {
-        let o = self.orientation;
-        let a = self.as_metres();
-        LocalVector::from_vec3_metres(o, a / rhs)
-    }
-
-    pub fn neg(self) -> Self
-        ensures { result ≡ local_neg self }
-    {
-        let o = self.orientation;
-        let a = self.as_metres();
-        LocalVector::from_vec3_metres(o, -a)
-    }
-
     // East-north-up to north-east-down and back: `from` of the Rust, which has it for these two. Any other vector stays as it is.
     pub fn swap(self) -> Self
         ensures { result ≡ Vectors.swap self }
@@ -192,6 +150,69 @@ impl LocalVector {
             Orientation::Body => self,
             Orientation::Wan => self,
         }
+    }
+}
+
+// A sum and a difference have the first one's orientation.
+impl Add for LocalVector {
+    type Output = Self;
+
+    ghost add_gives = { λ v w u. u ≡ local_add v w };
+
+    fn add(self, rhs: Self) -> Self {
+        let o = self.orientation;
+        let a = self.as_metres();
+        let b = rhs.as_metres();
+        LocalVector::from_vec3_metres(o, a + b)
+    }
+}
+
+impl Sub for LocalVector {
+    type Output = Self;
+
+    ghost sub_gives = { λ v w u. u ≡ local_sub v w };
+
+    fn sub(self, rhs: Self) -> Self {
+        let o = self.orientation;
+        let a = self.as_metres();
+        let b = rhs.as_metres();
+        LocalVector::from_vec3_metres(o, a - b)
+    }
+}
+
+impl Mul<f64> for LocalVector {
+    type Output = Self;
+
+    ghost mul_gives = { λ v k u. u ≡ local_mul v k };
+
+    fn mul(self, rhs: f64) -> Self {
+        let o = self.orientation;
+        let a = self.as_metres();
+        LocalVector::from_vec3_metres(o, a * rhs)
+    }
+}
+
+impl Div<f64> for LocalVector {
+    type Output = Self;
+
+    ghost div_gives = { λ v k u. u ≡ local_div v k };
+
+    fn div(self, rhs: f64) -> Self {
+        let o = self.orientation;
+        let a = self.as_metres();
+        LocalVector::from_vec3_metres(o, a / rhs)
+    }
+}
+
+impl Neg for LocalVector {
+    type Output = Self;
+
+    ghost neg_gives = { λ v u. u ≡ local_neg v };
+
+    fn neg(self) -> Self {
+        let o = self.orientation;
+        let a = self.as_metres();
+        LocalVector::from_vec3_metres(o, -a)
     }
 }
 

@@ -122,7 +122,7 @@ pub fn apply_neg(e: Ellipsoid, vector: Value) -> Applied
     let Value::Vector(v) = vector else {
         return Applied::NoRow;
     };
-    gives_vector(v.neg())
+    gives_vector(-v)
 }
 
 // add where `minus` is false, sub where it is true.
@@ -139,9 +139,9 @@ pub fn apply_sum(e: Ellipsoid, minus: bool, v: Value, w: Value) -> Applied
     let u = b.orientation;
     if same_orientation(o, u) {
         if minus {
-            gives_vector(a.sub(b))
+            gives_vector(a - b)
         } else {
-            gives_vector(a.add(b))
+            gives_vector(a + b)
         }
     } else {
         Applied::NoRow
@@ -157,7 +157,7 @@ pub fn apply_scale(e: Ellipsoid, vector: Value, factor: Value) -> Applied
     let Value::Number(k) = factor else {
         return Applied::NoRow;
     };
-    gives_vector(v.mul(k))
+    gives_vector(v * k)
 }
 
 pub fn apply_swap(e: Ellipsoid, vector: Value) -> Applied

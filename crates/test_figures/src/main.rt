@@ -8,15 +8,18 @@ mod jord;
 mod nima;
 mod report;
 
+use crate::report::report;
 use std::io;
 
 fn main(rt: HostRuntime) -> io::Result<()> {
-    jord::from_aer(&rt)?;
-    jord::radii(&rt)?;
-    jord::lengths(&rt)?;
-    nima::radii(&rt)?;
-    gade::example_1(&rt)?;
-    gade::example_2(&rt)?;
-    gade::example_3(&rt)?;
-    gade::example_4(&rt)
+    report(&rt, &jord::from_aer())?;
+    report(&rt, &jord::geocentric_radii())?;
+    report(&rt, &jord::latitude_radii())?;
+    report(&rt, &jord::other_radii())?;
+    report(&rt, &jord::lengths())?;
+    report(&rt, &nima::radii())?;
+    report(&rt, &gade::example_1())?;
+    report(&rt, &gade::example_2())?;
+    report(&rt, &gade::example_3())?;
+    report(&rt, &gade::example_4())
 }

@@ -85,7 +85,7 @@ pub fn frames_enu(
     ensures { out.new ≡ Direct.entries (enu_from_geodetic (geodetic_of x y z height) (ellipsoid_of a b e f)) }
 {
     let l = ellipsoid(a, b, e, f);
-    *out = entries(LocalFrame::enu_from_geodetic(geodetic(x, y, z, height), l));
+    *out = entries(LocalFrame::enu(geodetic(x, y, z, height), l));
 }
 
 fn entries(f: LocalFrame) -> [f64; 21]

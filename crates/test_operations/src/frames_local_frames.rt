@@ -20,10 +20,10 @@ pub fn levels(op: u64, a: [u64; 32]) -> [u64; 24]
     let g = geocentric(a, 4);
     let d = geodetic(a, 4);
     match op {
-        37 => answers::local_frame(LocalFrame::enu_from_geocentric(g, l)),
-        38 => answers::local_frame(LocalFrame::enu_from_geodetic(d, l)),
-        39 => answers::local_frame(LocalFrame::ned_from_geocentric(g, l)),
-        40 => answers::local_frame(LocalFrame::ned_from_geodetic(d, l)),
+        37 => answers::local_frame(LocalFrame::enu(g, l)),
+        38 => answers::local_frame(LocalFrame::enu(d, l)),
+        39 => answers::local_frame(LocalFrame::ned(g, l)),
+        40 => answers::local_frame(LocalFrame::ned(d, l)),
         _ => turned(op, a),
     }
 }
@@ -40,17 +40,12 @@ fn turned(op: u64, a: [u64; 32]) -> [u64; 24]
     let at9 = angle(a, 9);
     let at10 = angle(a, 10);
     match op {
-        41 => answers::local_frame(LocalFrame::body_from_geocentric(at7, at8, at9, g, l)),
-        42 => answers::local_frame(LocalFrame::body_from_geodetic(at8, at9, at10, d, l)),
-        43 => answers::local_frame(LocalFrame::wander_azimuth_from_geocentric(at7, g, l)),
-        44 => answers::local_frame(LocalFrame::wander_azimuth_from_geodetic(at8, d, l)),
-        45 => answers::local_frame(LocalFrame::looking_at_geocentric(g, geocentric(a, 7), at10, l)),
-        46 => answers::local_frame(LocalFrame::looking_at_geodetic(
-            d,
-            geodetic(a, 8),
-            angle(a, 12),
-            l,
-        )),
+        41 => answers::local_frame(LocalFrame::body(at7, at8, at9, g, l)),
+        42 => answers::local_frame(LocalFrame::body(at8, at9, at10, d, l)),
+        43 => answers::local_frame(LocalFrame::wander_azimuth(at7, g, l)),
+        44 => answers::local_frame(LocalFrame::wander_azimuth(at8, d, l)),
+        45 => answers::local_frame(LocalFrame::looking_at(g, geocentric(a, 7), at10, l)),
+        46 => answers::local_frame(LocalFrame::looking_at(d, geodetic(a, 8), angle(a, 12), l)),
         _ => led(op, a),
     }
 }

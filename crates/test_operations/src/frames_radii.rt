@@ -20,7 +20,7 @@ pub fn radii(op: u64, a: [u64; 32]) -> [u64; 24]
         56 => number(l.prime_vertical_radius(latitude).0),
         57 => number(l.meridian_radius(latitude).0),
         58 => number(l.mean_radius().0),
-        59 => answers::local_vector(local_vector(a, 1).div(double_at(a, 4))),
+        59 => answers::local_vector(local_vector(a, 1) / double_at(a, 4)),
         _ => [0u64; 24],
     }
 }

@@ -42,9 +42,9 @@ pub fn apply_level(e: Ellipsoid, ned: bool, position: Value) -> Applied
         Value::Geocentric(g) => {
             if is_far(e, g) {
                 if ned {
-                    gives_frame(LocalFrame::ned_from_geocentric(g, e))
+                    gives_frame(LocalFrame::ned(g, e))
                 } else {
-                    gives_frame(LocalFrame::enu_from_geocentric(g, e))
+                    gives_frame(LocalFrame::enu(g, e))
                 }
             } else {
                 Applied::Centre
@@ -52,9 +52,9 @@ pub fn apply_level(e: Ellipsoid, ned: bool, position: Value) -> Applied
         }
         Value::Geodetic(d) => {
             if ned {
-                gives_frame(LocalFrame::ned_from_geodetic(d, e))
+                gives_frame(LocalFrame::ned(d, e))
             } else {
-                gives_frame(LocalFrame::enu_from_geodetic(d, e))
+                gives_frame(LocalFrame::enu(d, e))
             }
         }
         _ => Applied::NoRow,
@@ -70,12 +70,12 @@ pub fn apply_wan(e: Ellipsoid, azimuth: Value, position: Value) -> Applied
     match position {
         Value::Geocentric(g) => {
             if is_far(e, g) {
-                gives_frame(LocalFrame::wander_azimuth_from_geocentric(az, g, e))
+                gives_frame(LocalFrame::wander_azimuth(az, g, e))
             } else {
                 Applied::Centre
             }
         }
-        Value::Geodetic(d) => gives_frame(LocalFrame::wander_azimuth_from_geodetic(az, d, e)),
+        Value::Geodetic(d) => gives_frame(LocalFrame::wander_azimuth(az, d, e)),
         _ => Applied::NoRow,
     }
 }
@@ -95,12 +95,12 @@ pub fn apply_body(e: Ellipsoid, yaw: Value, pitch: Value, roll: Value, position:
     match position {
         Value::Geocentric(g) => {
             if is_far(e, g) {
-                gives_frame(LocalFrame::body_from_geocentric(y, p, r, g, e))
+                gives_frame(LocalFrame::body(y, p, r, g, e))
             } else {
                 Applied::Centre
             }
         }
-        Value::Geodetic(d) => gives_frame(LocalFrame::body_from_geodetic(y, p, r, d, e)),
+        Value::Geodetic(d) => gives_frame(LocalFrame::body(y, p, r, d, e)),
         _ => Applied::NoRow,
     }
 }
@@ -117,7 +117,7 @@ pub fn apply_look(e: Ellipsoid, position: Value, target: Value, roll: Value) -> 
                 return Applied::NoRow;
             };
             if is_far(e, g) {
-                gives_frame(LocalFrame::looking_at_geocentric(g, t, r, e))
+                gives_frame(LocalFrame::looking_at(g, t, r, e))
             } else {
                 Applied::Centre
             }
@@ -129,7 +129,7 @@ pub fn apply_look(e: Ellipsoid, position: Value, target: Value, roll: Value) -> 
             let Value::Radians(r) = roll else {
                 return Applied::NoRow;
             };
-            gives_frame(LocalFrame::looking_at_geodetic(d, t, r, e))
+            gives_frame(LocalFrame::looking_at(d, t, r, e))
         }
         _ => Applied::NoRow,
     }

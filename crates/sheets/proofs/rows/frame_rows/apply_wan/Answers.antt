@@ -1,5 +1,6 @@
 -- `sheets::rows::frame_rows::apply_wan` meets its contract. Assumes nothing.
 use mathlib.Core.Path.{refl, sym, ◌∙◌}
+use Rattle.frames.specs.Frames.{wander_azimuth_from_geocentric, wander_azimuth_from_geodetic}
 use Rattle.sheets.specs.Letters.{hold}
 use Rattle.sheets.specs.Table.{table}
 use Rattle.sheets.specs.Lookup.{find}
@@ -11,16 +12,16 @@ unfolding table find hold
 returns-in_default c = rw (not-𝐚 _ c.in_default.not-Radians) refl
 
 pub returns-then-is_far : goal.returns-then-is_far
-unfolding table find hold
-returns-then-is_far c = rw (c.gives_frame.ensures, is-𝐚 c.in-Radians.is, is-𝐠 c.in-Geocentric.is, sym c.is_far.ensures ∙ c.if-is_far.true, c.wander_azimuth_from_geocentric.ensures) refl
+unfolding table find hold wander_azimuth_from_geocentric
+returns-then-is_far c = rw (c.gives_frame.ensures, is-𝐚 c.in-Radians.is, is-𝐠 c.in-Geocentric.is, sym c.is_far.ensures ∙ c.if-is_far.true, c.wander_azimuth.ensures) refl
 
 pub returns-else-is_far : goal.returns-else-is_far
 unfolding table find hold
 returns-else-is_far c = rw (is-𝐚 c.in-Radians.is, is-𝐠 c.in-Geocentric.is, sym c.is_far.ensures ∙ c.if-is_far.false) refl
 
 pub returns-in-Geodetic : goal.returns-in-Geodetic
-unfolding table find hold
-returns-in-Geodetic c = rw (c.gives_frame-in-Geodetic.ensures, is-𝐚 c.in-Radians.is, 𝐝-not-𝐠 c.in-Geodetic.is, is-𝐝 c.in-Geodetic.is, c.wander_azimuth_from_geodetic.ensures) refl
+unfolding table find hold wander_azimuth_from_geodetic
+returns-in-Geodetic c = rw (c.gives_frame-in-Geodetic.ensures, is-𝐚 c.in-Radians.is, 𝐝-not-𝐠 c.in-Geodetic.is, is-𝐝 c.in-Geodetic.is, c.wander_azimuth-in-Geodetic.ensures) refl
 
 pub returns-in_default-position : goal.returns-in_default-position
 unfolding table find hold

@@ -1,0 +1,9 @@
+-- `frames::LocalFrame::enu` meets its contract. Assumes nothing.
+use lib.Ieee.{of_bits}
+use Rattle.numbers.specs.Ops.{decimal}
+use Rattle.frames.specs.Frames.{new_enu, enu_inverse}
+use Rattle.frames.proofs.LocalFrame.enu.Goals as goal
+
+pub returns : goal.returns
+unfolding of_bits decimal new_enu enu_inverse
+returns g c = simp (c.transpose.ensures, c.as_metres.ensures, c.to_geocentric.ensures, c.to_geodetic.ensures, c.new-inv_rm.ensures, c.cross_prod-rn.ensures, c.orthogonal_to-re.ensures)

@@ -1,9 +1,0 @@
--- `frames::LocalFrame::new_ned` meets its contract. Assumes nothing.
-use lib.Ieee.{of_bits}
-use Rattle.numbers.specs.Ops.{decimal}
-use Rattle.frames.specs.Frames.{new_ned, ned_inverse}
-use Rattle.frames.proofs.LocalFrame.new_ned.Goals as goal
-
-pub returns : goal.returns
-unfolding of_bits decimal new_ned ned_inverse
-returns c = simp (c.transpose.ensures, c.as_metres.ensures, c.new-inv_rm.ensures, c.cross_prod-rn.ensures, c.orthogonal_to-re.ensures, c.mul-rd.ensures)

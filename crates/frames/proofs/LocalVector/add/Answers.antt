@@ -1,5 +1,0 @@
--- `frames::LocalVector::add` meets its contract. Assumes nothing.
-use Rattle.frames.proofs.LocalVector.add.Goals as goal
-
-pub returns : goal.returns
-returns c = simp (c.from_vec3_metres.ensures, c.add.ensures, c.as_metres-b.ensures, c.as_metres-a.ensures)
