@@ -26,11 +26,8 @@ fn is_clear_below(least: f64, v: Vec3, place: usize, floats: &[f64; 2940], shown
     requires { place ≤ 96 }
     ensures { result ≡ clear_below least v floats.now shown.now place }
 {
-    let mut q = place;
-    while 0 < q {
-        q -= 1;
-        let clear = is_clear(least, v, q, floats, shown);
-        if !clear {
+    for q in 0..place {
+        if !is_clear(least, v, q, floats, shown) {
             return false;
         }
     }
@@ -41,13 +38,10 @@ fn is_clear_below(least: f64, v: Vec3, place: usize, floats: &[f64; 2940], shown
 pub fn stand_apart(least: f64, floats: &[f64; 2940], shown: &[u8; 96]) -> bool
     ensures { result ≡ apart_below least floats.now shown.now 96 }
 {
-    let mut p: usize = 96;
-    while 0 < p {
-        p -= 1;
+    for p in 0..96 {
         if shown[p] == 1 {
             let v = position_at(floats, 21 * p).as_metres();
-            let clear = is_clear_below(least, v, p, floats, shown);
-            if !clear {
+            if !is_clear_below(least, v, p, floats, shown) {
                 return false;
             }
         }
