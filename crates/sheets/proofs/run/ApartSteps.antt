@@ -12,7 +12,7 @@ use lib.ListN.{get_or}
 use lib.Ieee as Ieee
 use lib.Ieee.{Float, binary64}
 use lib.Ieee.Fits.{add-fits}
-use borrow.Author.Tests.{eq-eqb, ne_eqb, eqb-true, eqb-false, ltb-true, ltb-false}
+use borrow.Author.Tests.{eqb-true, eqb-false, ltb-true, ltb-false}
 use Rattle.numbers.specs.Ops.{◌⊗◌}
 use Rattle.numbers.specs.Vec.{squared_norm, norm, vec_sub}
 use Rattle.numbers.proofs.FitLaws.{Fits}
@@ -28,21 +28,21 @@ use Rattle.sheets.specs.code.run.Apart.{metres_at, clear_at, clear_below, apart_
 use Rattle.sheets.proofs.ApartLaws.{distance-comm, clear-two, not-clear, every_two, some-two}
 use Rattle.sheets.proofs.Bools.{and_both, and-some}
 
-module _ (least : Float) (f : List Float) (js : List ℕ) where
+module _ (least : Float) (f : List Float) (js : List Bool) where
   -- ---- one place
 
   module _ (v : Vec3) (j : ℕ) where
-    pub clear-shown : get_or js j 0 ≡ 1 → Ieee.le least (norm (vec_sub v (metres_at f j))) ≡ clear_at least v f js j
+    pub clear-shown : get_or js j false ≡ true → Ieee.le least (norm (vec_sub v (metres_at f j))) ≡ clear_at least v f js j
     unfolding clear_at
-    clear-shown h = rw (eq-eqb (get_or js j 0) 1 h) refl
+    clear-shown h = rw h refl
 
     -- where the squares decide
-    pub clear-squared : get_or js j 0 ≡ 1 → Fits least → (s : Float) → s ≡ squared_norm (vec_sub v (metres_at f j)) → Ieee.lt (least ⊗ least) s ≡ true → true ≡ clear_at least v f js j
+    pub clear-squared : get_or js j false ≡ true → Fits least → (s : Float) → s ≡ squared_norm (vec_sub v (metres_at f j)) → Ieee.lt (least ⊗ least) s ≡ true → true ≡ clear_at least v f js j
     clear-squared h fl s es l = sym (square-decides least (squared_norm (vec_sub v (metres_at f j))) fl (add-fits binary64 _ _) (ap (Ieee.lt (least ⊗ least)) (sym es) ∙ l)) ∙ clear-shown h
 
-    pub clear-unshown : (get_or js j 0 ≡ 1 → ⊥) → true ≡ clear_at least v f js j
+    pub clear-unshown : get_or js j false ≡ false → true ≡ clear_at least v f js j
     unfolding clear_at
-    clear-unshown h = rw (ne_eqb (get_or js j 0) 1 h) refl
+    clear-unshown h = rw h refl
 
   -- ---- the places below
 
@@ -70,13 +70,13 @@ module _ (least : Float) (f : List Float) (js : List ℕ) where
   unfolding apart_below
   apart-none = refl
 
-  pub apart-unshown : (q : ℕ) → (get_or js q 0 ≡ 1 → ⊥) → apart_below least f js q ≡ true → apart_below least f js (q + 1) ≡ true
+  pub apart-unshown : (q : ℕ) → get_or js q false ≡ false → apart_below least f js q ≡ true → apart_below least f js (q + 1) ≡ true
   unfolding apart_below
-  apart-unshown q h i = ap (apart_below least f js) (add-one q) ∙ ap (λ (z : Bool). when z (clear_below least (metres_at f q) f js q) true && apart_below least f js q) (ne_eqb (get_or js q 0) 1 h) ∙ i
+  apart-unshown q h i = ap (apart_below least f js) (add-one q) ∙ ap (λ (z : Bool). when z (clear_below least (metres_at f q) f js q) true && apart_below least f js q) h ∙ i
 
-  module _ (q : ℕ) (h : get_or js q 0 ≡ 1) (v : Vec3) (ev : v ≡ metres_at f q) (c : Bool) (ec : c ≡ clear_below least v f js q) where
-    shown-is : (b : Bool) → c ≡ b → when (eqb (get_or js q 0) 1) (clear_below least (metres_at f q) f js q) true ≡ b
-    shown-is b e = ap (λ (z : Bool). when z (clear_below least (metres_at f q) f js q) true) (eq-eqb (get_or js q 0) 1 h) ∙ ap (λ v. clear_below least v f js q) (sym ev) ∙ sym ec ∙ e
+  module _ (q : ℕ) (h : get_or js q false ≡ true) (v : Vec3) (ev : v ≡ metres_at f q) (c : Bool) (ec : c ≡ clear_below least v f js q) where
+    shown-is : (b : Bool) → c ≡ b → when (get_or js q false) (clear_below least (metres_at f q) f js q) true ≡ b
+    shown-is b e = ap (λ (z : Bool). when z (clear_below least (metres_at f q) f js q) true) h ∙ ap (λ v. clear_below least v f js q) (sym ev) ∙ sym ec ∙ e
 
     pub apart-next : c ≡ true → apart_below least f js q ≡ true → apart_below least f js (q + 1) ≡ true
     unfolding apart_below
@@ -88,8 +88,8 @@ module _ (least : Float) (f : List Float) (js : List ℕ) where
     apart-broken e (suc p) l = go (eqb q p) refl (apart-broken e p)
       where
         go : (b : Bool) → eqb q p ≡ b → (q < p → false ≡ apart_below least f js p) → false ≡ apart_below least f js (suc p)
-        go true a r = sym (ap (λ (z : Bool). z && apart_below least f js p) (ap (λ j. when (eqb (get_or js j 0) 1) (clear_below least (metres_at f j) f js j) true) (sym (eqb-true q p a)) ∙ shown-is false e))
-        go false a r = let n : (q ≡ p → ⊥) = eqb-false q p a in sym (and-false (when (eqb (get_or js p 0) 1) (clear_below least (metres_at f p) f js p) true)) ∙ ap (λ (z : Bool). when (eqb (get_or js p 0) 1) (clear_below least (metres_at f p) f js p) true && z) (r (omega arith))
+        go true a r = sym (ap (λ (z : Bool). z && apart_below least f js p) (ap (λ j. when (get_or js j false) (clear_below least (metres_at f j) f js j) true) (sym (eqb-true q p a)) ∙ shown-is false e))
+        go false a r = let n : (q ≡ p → ⊥) = eqb-false q p a in sym (and-false (when (get_or js p false) (clear_below least (metres_at f p) f js p) true)) ∙ ap (λ (z : Bool). when (get_or js p false) (clear_below least (metres_at f p) f js p) true && z) (r (omega arith))
 
   -- ---- the answer of an apart
 
@@ -112,7 +112,7 @@ module _ (least : Float) (f : List Float) (js : List ℕ) where
   abbrev Far : ℕ → ℕ → Bool
   Far p q = Ieee.le least (norm (vec_sub (metres_at f p) (metres_at f q)))
 
-  below-far : (p m : ℕ) → clear_below least (metres_at f p) f js m ≡ true → (q : ℕ) → q < m → get_or js q 0 ≡ 1 → Far p q ≡ true
+  below-far : (p m : ℕ) → clear_below least (metres_at f p) f js m ≡ true → (q : ℕ) → q < m → get_or js q false ≡ true → Far p q ≡ true
   unfolding clear_below
   below-far p zero h q l k = absurd (omega arith)
   below-far p (suc m) h q l k =
@@ -123,14 +123,14 @@ module _ (least : Float) (f : List Float) (js : List ℕ) where
       go true e c r = clear-shown (metres_at f p) q k ∙ ap (clear_at least (metres_at f p) f js) (eqb-true q m e) ∙ c
       go false e c r = let n : (q ≡ m → ⊥) = eqb-false q m e in r (omega arith)
 
-  shown-or : (j : ℕ) (x : Bool) → when (eqb (get_or js j 0) 1) x true ≡ false → (get_or js j 0 ≡ 1) × (x ≡ false)
-  shown-or j x h = go (eqb (get_or js j 0) 1) refl h
+  shown-or : (j : ℕ) (x : Bool) → when (get_or js j false) x true ≡ false → (get_or js j false ≡ true) × (x ≡ false)
+  shown-or j x h = go (get_or js j false) refl h
     where
-      go : (b : Bool) → eqb (get_or js j 0) 1 ≡ b → when b x true ≡ false → (get_or js j 0 ≡ 1) × (x ≡ false)
-      go true e h = (eqb-true (get_or js j 0) 1 e, h)
+      go : (b : Bool) → get_or js j false ≡ b → when b x true ≡ false → (get_or js j false ≡ true) × (x ≡ false)
+      go true e h = (e, h)
       go false e h = absurd (true≢false h)
 
-  below-near : (p m : ℕ) → clear_below least (metres_at f p) f js m ≡ false → (q : ℕ) × (q < m) × (get_or js q 0 ≡ 1) × (Far p q ≡ false)
+  below-near : (p m : ℕ) → clear_below least (metres_at f p) f js m ≡ false → (q : ℕ) × (q < m) × (get_or js q false ≡ true) × (Far p q ≡ false)
   unfolding clear_at clear_below
   below-near p zero h = absurd (true≢false h)
   below-near p (suc m) h = elim (and-some (clear_at least (metres_at f p) f js m) (clear_below least (metres_at f p) f js m) h) [
@@ -138,24 +138,24 @@ module _ (least : Float) (f : List Float) (js : List ℕ) where
     | inr e ↦ let (q, l, k, n) = below-near p m e in (q, omega arith, k, n)
   ]
 
-  all-far : (m : ℕ) → apart_below least f js m ≡ true → (p q : ℕ) → q < p → p < m → get_or js p 0 ≡ 1 → get_or js q 0 ≡ 1 → Far p q ≡ true
+  all-far : (m : ℕ) → apart_below least f js m ≡ true → (p q : ℕ) → q < p → p < m → get_or js p false ≡ true → get_or js q false ≡ true → Far p q ≡ true
   unfolding apart_below
   all-far zero h p q l r i k = absurd (omega arith)
   all-far (suc m) h p q l r i k =
-      let (here, below) = and_both (when (eqb (get_or js m 0) 1) (clear_below least (metres_at f m) f js m) true) (apart_below least f js m) h in
+      let (here, below) = and_both (when (get_or js m false) (clear_below least (metres_at f m) f js m) true) (apart_below least f js m) h in
       go (eqb p m) refl here (λ r. all-far m below p q l r i k)
     where
-      go : (b : Bool) → eqb p m ≡ b → when (eqb (get_or js m 0) 1) (clear_below least (metres_at f m) f js m) true ≡ true → (p < m → Far p q ≡ true) → Far p q ≡ true
+      go : (b : Bool) → eqb p m ≡ b → when (get_or js m false) (clear_below least (metres_at f m) f js m) true ≡ true → (p < m → Far p q ≡ true) → Far p q ≡ true
       go true e c ih =
           let em : p ≡ m = eqb-true p m e in
-          let all = sym (ap (λ (z : Bool). when z (clear_below least (metres_at f m) f js m) true) (eq-eqb (get_or js m 0) 1 (ap (λ j. get_or js j 0) (sym em) ∙ i))) ∙ c in
+          let all = sym (ap (λ (z : Bool). when z (clear_below least (metres_at f m) f js m) true) (ap (λ j. get_or js j false) (sym em) ∙ i)) ∙ c in
           ap (λ p. Far p q) em ∙ below-far m m all q (omega (arith, em, l)) k
       go false e c ih = let n : (p ≡ m → ⊥) = eqb-false p m e in ih (omega arith)
 
-  some_near : (m : ℕ) → apart_below least f js m ≡ false → (p q : ℕ) × (q < p) × (p < m) × (get_or js p 0 ≡ 1) × (get_or js q 0 ≡ 1) × (Far p q ≡ false)
+  some_near : (m : ℕ) → apart_below least f js m ≡ false → (p q : ℕ) × (q < p) × (p < m) × (get_or js p false ≡ true) × (get_or js q false ≡ true) × (Far p q ≡ false)
   unfolding apart_below
   some_near zero h = absurd (true≢false h)
-  some_near (suc m) h = elim (and-some (when (eqb (get_or js m 0) 1) (clear_below least (metres_at f m) f js m) true) (apart_below least f js m) h) [
+  some_near (suc m) h = elim (and-some (when (get_or js m false) (clear_below least (metres_at f m) f js m) true) (apart_below least f js m) h) [
     | inl e ↦ let (i, c) = shown-or m _ e in let (q, l, k, n) = below-near m m c in (m, q, l, omega arith, i, k, n)
     | inr e ↦ let (p, q, l, r, i, k, n) = some_near m e in (p, q, l, omega arith, i, k, n)
   ]

@@ -1,7 +1,7 @@
 -- `sheets::run::fields::put_fields` meets its contract. Assumes nothing.
 use mathlib.Core.Path.{refl, ◌∙◌}
 use native.Mathlib.Omega.{arith}
-use lib.ListN.{length, take}
+use lib.ListN.{take}
 use lib.Seq.{length-take-le}
 use Rattle.std.proofs.lemmas.List.{take_all}
 use Rattle.sheets.proofs.run.WritingLaws.{none-written}
