@@ -22,7 +22,6 @@ use Rattle.sheets.specs.declared.answers.CheckAnswer.{CheckAnswer}
 use Rattle.sheets.specs.declared.answers.RunAnswer.{RunAnswer}
 use Rattle.sheets.specs.Answers.{sized, ranged, Verdict, admitted, refused, of_walked, of_range, of_form, of_lent, of_size, verdict, check_of, laid, kinds_of_verdict, lent_kinds, CheckOwes, Tells, RunOf, lent_run, RunOwes}
 use Rattle.sheets.specs.code.run.Writing.{writes, part}
-use Rattle.sheets.proofs.run.WritingLaws.{name-written, laid-first}
 use Rattle.sheets.proofs.Sound.{agree}
 use Rattle.sheets.proofs.ClaimHolds.{unstuck, claim}
 use Rattle.sheets.proofs.TotalsHold.{totals_add_up}
@@ -35,14 +34,6 @@ use Rattle.numbers.proofs.FitLaws.{Fits}
 use Rattle.sheets.specs.Both.{Both}
 use Rattle.sheets.specs.declared.check_and_run.BothAnswers.{BothAnswers}
 use Rattle.sheets.specs.code.run.Running.{Runs}
-
--- ---- the kind list
-
-pub codes-put : (o d codes : List ℕ) (n i : ℕ) → n ≤ i → i ≤ n → n ≤ length codes → n ≤ length d → writes o i (part codes i n) ≡ writes d 0 (part codes 0 n) → o ≡ laid (take n codes) d
-codes-put o d codes n i h k l m e =
-    let w = name-written o d codes 0 0 i i n h k (omega arith) l e in
-    let p : part codes 0 n ≡ take n codes = ap (λ j. take j codes) {x = n - 0} {y = n} (omega arith) in
-    w.is ∙ ap (writes d 0) p ∙ laid-first (take n codes) d (omega (arith, length-take-le n codes l))
 
 -- ---- the check
 

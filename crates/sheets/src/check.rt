@@ -14,7 +14,7 @@ use crate::check::admit::{Outcome, admit};
 pub fn is_sized(n: usize) -> bool
     ensures { result ≡ (leb 1 n && leb n 16384) }
 {
-    if 1 <= n { n <= 16384 } else { false }
+    1 <= n && n <= 16384
 }
 
 // The kind codes of so many lines into the kind list.
@@ -22,11 +22,7 @@ fn put_codes(codes: [u8; 96], lines: usize, kinds: &mut [u8])
     requires { (lines ≤ 96) × (length kinds.old ≡ 96) }
     ensures { kinds.new ≡ laid (take lines codes) kinds.old }
 {
-    let mut i: usize = 0;
-    while i < lines {
-        kinds[i] = codes[i];
-        i += 1;
-    }
+    kinds[..lines].copy_from_slice(&codes[..lines]);
 }
 
 // A passing check answers number 0 and writes one kind code a line, 255 for line 1; a refusing one writes nothing.

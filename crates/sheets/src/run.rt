@@ -9,6 +9,7 @@ pub(crate) mod lines_run;
 pub(crate) mod oriented_rows;
 pub(crate) mod plain_rows;
 pub(crate) mod readings;
+pub(crate) mod shown;
 pub(crate) mod text;
 pub(crate) mod whole;
 

@@ -1,16 +1,18 @@
 -- Whether the names shown stand apart, as the code tells it: a law for each way out of `is_clear`, of the loops of `is_clear_below` and `stand_apart`, and of `apart`; and that it is what the definition says. Assumes nothing.
-use Prim.Native.Nat.{ℕ, zero, suc, ◌<◌, ◌≤◌}
+use Prim.Native.Nat.{ℕ, zero, suc, ◌+◌, ◌<◌, ◌≤◌}
+use native.Mathlib.Numerals.{add-one}
 use native.Mathlib.Omega.{arith}
 use mathlib.Core.Path.{◌≡◌, refl, sym, ap, ap₂, ◌∙◌}
 use mathlib.Core.Logic.{◌⊎◌, inl, inr}
-use mathlib.Core.Bool.{Bool, true, false, not, ◌&&◌, true≢false}
+use mathlib.Core.Bool.{Bool, true, false, ◌&&◌, true≢false}
+use Rattle.std.proofs.Math.Bool.{and-false}
 use mathlib.Core.List.{List}
 use lib.Dec.{eqb, ltb}
 use lib.ListN.{get_or}
 use lib.Ieee as Ieee
 use lib.Ieee.{Float, binary64}
 use lib.Ieee.Fits.{add-fits}
-use borrow.Author.Tests.{eq-eqb, ne_eqb, eqb-true, eqb-false, ltb-true, ltb-false}
+use borrow.Author.Tests.{eqb-true, eqb-false, ltb-true, ltb-false}
 use Rattle.numbers.specs.Ops.{◌⊗◌}
 use Rattle.numbers.specs.Vec.{squared_norm, norm, vec_sub}
 use Rattle.numbers.proofs.FitLaws.{Fits}
@@ -24,67 +26,70 @@ use Rattle.sheets.specs.Aparts.{Fix, distance, stand_apart}
 use Rattle.sheets.specs.code.run.Keeping.{Rising, FixAt, FixesKept}
 use Rattle.sheets.specs.code.run.Apart.{metres_at, clear_at, clear_below, apart_below, apart_answer}
 use Rattle.sheets.proofs.ApartLaws.{distance-comm, clear-two, not-clear, every_two, some-two}
-use Rattle.sheets.proofs.Bools.{and_both, and-some, not-once}
+use Rattle.sheets.proofs.Bools.{and_both, and-some}
 
-module _ (least : Float) (f : List Float) (js : List ℕ) where
+module _ (least : Float) (f : List Float) (js : List Bool) where
   -- ---- one place
 
   module _ (v : Vec3) (j : ℕ) where
-    pub clear-shown : get_or js j 0 ≡ 1 → Ieee.le least (norm (vec_sub v (metres_at f j))) ≡ clear_at least v f js j
+    pub clear-shown : get_or js j false ≡ true → Ieee.le least (norm (vec_sub v (metres_at f j))) ≡ clear_at least v f js j
     unfolding clear_at
-    clear-shown h = rw (eq-eqb (get_or js j 0) 1 h) refl
+    clear-shown h = rw h refl
 
     -- where the squares decide
-    pub clear-squared : get_or js j 0 ≡ 1 → Fits least → (s : Float) → s ≡ squared_norm (vec_sub v (metres_at f j)) → Ieee.lt (least ⊗ least) s ≡ true → true ≡ clear_at least v f js j
+    pub clear-squared : get_or js j false ≡ true → Fits least → (s : Float) → s ≡ squared_norm (vec_sub v (metres_at f j)) → Ieee.lt (least ⊗ least) s ≡ true → true ≡ clear_at least v f js j
     clear-squared h fl s es l = sym (square-decides least (squared_norm (vec_sub v (metres_at f j))) fl (add-fits binary64 _ _) (ap (Ieee.lt (least ⊗ least)) (sym es) ∙ l)) ∙ clear-shown h
 
-    pub clear-unshown : (get_or js j 0 ≡ 1 → ⊥) → true ≡ clear_at least v f js j
+    pub clear-unshown : get_or js j false ≡ false → true ≡ clear_at least v f js j
     unfolding clear_at
-    clear-unshown h = rw (ne_eqb (get_or js j 0) 1 h) refl
+    clear-unshown h = rw h refl
 
-  -- ---- the places below, from the last one down: p is the place after q
+  -- ---- the places below
 
-  module _ (v : Vec3) (p q : ℕ) (ep : p ≡ suc q) (c : Bool) (ec : c ≡ clear_at least v f js q) where
-    below-is : (b : Bool) → c ≡ b → clear_below least v f js p ≡ (b && clear_below least v f js q)
-    unfolding clear_below
-    below-is b h = ap (clear_below least v f js) ep ∙ ap (λ (z : Bool). z && clear_below least v f js q) (sym ec ∙ h)
-
-    pub below_next : not c ≡ false → clear_below least v f js p ≡ clear_below least v f js q
-    below_next h = below-is true (not-once c false h)
-
-    pub below-not : not c ≡ true → clear_below least v f js p ≡ false
-    below-not h = below-is false (not-once c true h)
-
-  pub below_end : (v : Vec3) (q : ℕ) → q ≤ 0 → clear_below least v f js q ≡ true
+  pub clear-none : (v : Vec3) → clear_below least v f js 0 ≡ true
   unfolding clear_below
-  below_end v zero h = refl
-  below_end v (suc q) h = absurd (omega arith)
+  clear-none v = refl
+
+  module _ (v : Vec3) (q : ℕ) (c : Bool) (ec : c ≡ clear_at least v f js q) where
+    pub clear-next : c ≡ true → clear_below least v f js q ≡ true → clear_below least v f js (q + 1) ≡ true
+    unfolding clear_below
+    clear-next h i = ap (clear_below least v f js) (add-one q) ∙ ap (λ (z : Bool). z && clear_below least v f js q) (sym ec ∙ h) ∙ i
+
+    pub clear-broken : c ≡ false → (p : ℕ) → q < p → false ≡ clear_below least v f js p
+    unfolding clear_below
+    clear-broken h zero l = absurd (omega arith)
+    clear-broken h (suc p) l = go (eqb q p) refl (clear-broken h p)
+      where
+        go : (b : Bool) → eqb q p ≡ b → (q < p → false ≡ clear_below least v f js p) → false ≡ clear_below least v f js (suc p)
+        go true e r = sym (ap (λ (z : Bool). z && clear_below least v f js p) (ap (clear_at least v f js) (sym (eqb-true q p e)) ∙ sym ec ∙ h))
+        go false e r = let n : (q ≡ p → ⊥) = eqb-false q p e in sym (and-false (clear_at least v f js p)) ∙ ap (λ (z : Bool). clear_at least v f js p && z) (r (omega arith))
 
   -- ---- every two of the places below
 
-  module _ (p q : ℕ) (ep : p ≡ suc q) where
-    pub apart-unshown : (get_or js q 0 ≡ 1 → ⊥) → apart_below least f js p ≡ apart_below least f js q
-    unfolding apart_below
-    apart-unshown h = ap (apart_below least f js) ep ∙ ap (λ (z : Bool). when z (clear_below least (metres_at f q) f js q) true && apart_below least f js q) (ne_eqb (get_or js q 0) 1 h)
-
-    module _ (h : get_or js q 0 ≡ 1) (v : Vec3) (ev : v ≡ metres_at f q) (c : Bool) (ec : c ≡ clear_below least v f js q) where
-      apart-is : (b : Bool) → c ≡ b → apart_below least f js p ≡ (b && apart_below least f js q)
-      unfolding apart_below
-      apart-is b e =
-          ap (apart_below least f js) ep
-          ∙ ap (λ (z : Bool). when z (clear_below least (metres_at f q) f js q) true && apart_below least f js q) (eq-eqb (get_or js q 0) 1 h)
-          ∙ ap (λ (z : Bool). z && apart_below least f js q) (ap (λ v. clear_below least v f js q) (sym ev) ∙ sym ec ∙ e)
-
-      pub apart_next : not c ≡ false → apart_below least f js p ≡ apart_below least f js q
-      apart_next e = apart-is true (not-once c false e)
-
-      pub apart-not : not c ≡ true → apart_below least f js p ≡ false
-      apart-not e = apart-is false (not-once c true e)
-
-  pub apart-end : (p : ℕ) → p ≤ 0 → apart_below least f js p ≡ true
+  pub apart-none : apart_below least f js 0 ≡ true
   unfolding apart_below
-  apart-end zero h = refl
-  apart-end (suc p) h = absurd (omega arith)
+  apart-none = refl
+
+  pub apart-unshown : (q : ℕ) → get_or js q false ≡ false → apart_below least f js q ≡ true → apart_below least f js (q + 1) ≡ true
+  unfolding apart_below
+  apart-unshown q h i = ap (apart_below least f js) (add-one q) ∙ ap (λ (z : Bool). when z (clear_below least (metres_at f q) f js q) true && apart_below least f js q) h ∙ i
+
+  module _ (q : ℕ) (h : get_or js q false ≡ true) (v : Vec3) (ev : v ≡ metres_at f q) (c : Bool) (ec : c ≡ clear_below least v f js q) where
+    shown-is : (b : Bool) → c ≡ b → when (get_or js q false) (clear_below least (metres_at f q) f js q) true ≡ b
+    shown-is b e = ap (λ (z : Bool). when z (clear_below least (metres_at f q) f js q) true) h ∙ ap (λ v. clear_below least v f js q) (sym ev) ∙ sym ec ∙ e
+
+    pub apart-next : c ≡ true → apart_below least f js q ≡ true → apart_below least f js (q + 1) ≡ true
+    unfolding apart_below
+    apart-next e i = ap (apart_below least f js) (add-one q) ∙ ap (λ (z : Bool). z && apart_below least f js q) (shown-is true e) ∙ i
+
+    pub apart-broken : c ≡ false → (p : ℕ) → q < p → false ≡ apart_below least f js p
+    unfolding apart_below
+    apart-broken e zero l = absurd (omega arith)
+    apart-broken e (suc p) l = go (eqb q p) refl (apart-broken e p)
+      where
+        go : (b : Bool) → eqb q p ≡ b → (q < p → false ≡ apart_below least f js p) → false ≡ apart_below least f js (suc p)
+        go true a r = sym (ap (λ (z : Bool). z && apart_below least f js p) (ap (λ j. when (get_or js j false) (clear_below least (metres_at f j) f js j) true) (sym (eqb-true q p a)) ∙ shown-is false e))
+        go false a r = let n : (q ≡ p → ⊥) = eqb-false q p a in sym (and-false (when (get_or js p false) (clear_below least (metres_at f p) f js p) true)) ∙ ap (λ (z : Bool). when (get_or js p false) (clear_below least (metres_at f p) f js p) true && z) (r (omega arith))
 
   -- ---- the answer of an apart
 
@@ -98,16 +103,16 @@ module _ (least : Float) (f : List Float) (js : List ℕ) where
       unfolding apart_answer
       apart-holds i = rw (← en, h, ← eb, i) refl
 
-      pub apart-broken : b ≡ false → Evaluated.Stops 9 ≡ apart_answer least f js written
+      pub apart-close : b ≡ false → Evaluated.Stops 9 ≡ apart_answer least f js written
       unfolding apart_answer
-      apart-broken i = rw (← en, h, ← eb, i) refl
+      apart-close i = rw (← en, h, ← eb, i) refl
 
   -- ---- what it tells of two places
 
   abbrev Far : ℕ → ℕ → Bool
   Far p q = Ieee.le least (norm (vec_sub (metres_at f p) (metres_at f q)))
 
-  below-far : (p m : ℕ) → clear_below least (metres_at f p) f js m ≡ true → (q : ℕ) → q < m → get_or js q 0 ≡ 1 → Far p q ≡ true
+  below-far : (p m : ℕ) → clear_below least (metres_at f p) f js m ≡ true → (q : ℕ) → q < m → get_or js q false ≡ true → Far p q ≡ true
   unfolding clear_below
   below-far p zero h q l k = absurd (omega arith)
   below-far p (suc m) h q l k =
@@ -118,14 +123,14 @@ module _ (least : Float) (f : List Float) (js : List ℕ) where
       go true e c r = clear-shown (metres_at f p) q k ∙ ap (clear_at least (metres_at f p) f js) (eqb-true q m e) ∙ c
       go false e c r = let n : (q ≡ m → ⊥) = eqb-false q m e in r (omega arith)
 
-  shown-or : (j : ℕ) (x : Bool) → when (eqb (get_or js j 0) 1) x true ≡ false → (get_or js j 0 ≡ 1) × (x ≡ false)
-  shown-or j x h = go (eqb (get_or js j 0) 1) refl h
+  shown-or : (j : ℕ) (x : Bool) → when (get_or js j false) x true ≡ false → (get_or js j false ≡ true) × (x ≡ false)
+  shown-or j x h = go (get_or js j false) refl h
     where
-      go : (b : Bool) → eqb (get_or js j 0) 1 ≡ b → when b x true ≡ false → (get_or js j 0 ≡ 1) × (x ≡ false)
-      go true e h = (eqb-true (get_or js j 0) 1 e, h)
+      go : (b : Bool) → get_or js j false ≡ b → when b x true ≡ false → (get_or js j false ≡ true) × (x ≡ false)
+      go true e h = (e, h)
       go false e h = absurd (true≢false h)
 
-  below-near : (p m : ℕ) → clear_below least (metres_at f p) f js m ≡ false → (q : ℕ) × (q < m) × (get_or js q 0 ≡ 1) × (Far p q ≡ false)
+  below-near : (p m : ℕ) → clear_below least (metres_at f p) f js m ≡ false → (q : ℕ) × (q < m) × (get_or js q false ≡ true) × (Far p q ≡ false)
   unfolding clear_at clear_below
   below-near p zero h = absurd (true≢false h)
   below-near p (suc m) h = elim (and-some (clear_at least (metres_at f p) f js m) (clear_below least (metres_at f p) f js m) h) [
@@ -133,24 +138,24 @@ module _ (least : Float) (f : List Float) (js : List ℕ) where
     | inr e ↦ let (q, l, k, n) = below-near p m e in (q, omega arith, k, n)
   ]
 
-  all-far : (m : ℕ) → apart_below least f js m ≡ true → (p q : ℕ) → q < p → p < m → get_or js p 0 ≡ 1 → get_or js q 0 ≡ 1 → Far p q ≡ true
+  all-far : (m : ℕ) → apart_below least f js m ≡ true → (p q : ℕ) → q < p → p < m → get_or js p false ≡ true → get_or js q false ≡ true → Far p q ≡ true
   unfolding apart_below
   all-far zero h p q l r i k = absurd (omega arith)
   all-far (suc m) h p q l r i k =
-      let (here, below) = and_both (when (eqb (get_or js m 0) 1) (clear_below least (metres_at f m) f js m) true) (apart_below least f js m) h in
+      let (here, below) = and_both (when (get_or js m false) (clear_below least (metres_at f m) f js m) true) (apart_below least f js m) h in
       go (eqb p m) refl here (λ r. all-far m below p q l r i k)
     where
-      go : (b : Bool) → eqb p m ≡ b → when (eqb (get_or js m 0) 1) (clear_below least (metres_at f m) f js m) true ≡ true → (p < m → Far p q ≡ true) → Far p q ≡ true
+      go : (b : Bool) → eqb p m ≡ b → when (get_or js m false) (clear_below least (metres_at f m) f js m) true ≡ true → (p < m → Far p q ≡ true) → Far p q ≡ true
       go true e c ih =
           let em : p ≡ m = eqb-true p m e in
-          let all = sym (ap (λ (z : Bool). when z (clear_below least (metres_at f m) f js m) true) (eq-eqb (get_or js m 0) 1 (ap (λ j. get_or js j 0) (sym em) ∙ i))) ∙ c in
+          let all = sym (ap (λ (z : Bool). when z (clear_below least (metres_at f m) f js m) true) (ap (λ j. get_or js j false) (sym em) ∙ i)) ∙ c in
           ap (λ p. Far p q) em ∙ below-far m m all q (omega (arith, em, l)) k
       go false e c ih = let n : (p ≡ m → ⊥) = eqb-false p m e in ih (omega arith)
 
-  some_near : (m : ℕ) → apart_below least f js m ≡ false → (p q : ℕ) × (q < p) × (p < m) × (get_or js p 0 ≡ 1) × (get_or js q 0 ≡ 1) × (Far p q ≡ false)
+  some_near : (m : ℕ) → apart_below least f js m ≡ false → (p q : ℕ) × (q < p) × (p < m) × (get_or js p false ≡ true) × (get_or js q false ≡ true) × (Far p q ≡ false)
   unfolding apart_below
   some_near zero h = absurd (true≢false h)
-  some_near (suc m) h = elim (and-some (when (eqb (get_or js m 0) 1) (clear_below least (metres_at f m) f js m) true) (apart_below least f js m) h) [
+  some_near (suc m) h = elim (and-some (when (get_or js m false) (clear_below least (metres_at f m) f js m) true) (apart_below least f js m) h) [
     | inl e ↦ let (i, c) = shown-or m _ e in let (q, l, k, n) = below-near m m c in (m, q, l, omega arith, i, k, n)
     | inr e ↦ let (p, q, l, r, i, k, n) = some_near m e in (p, q, l, omega arith, i, k, n)
   ]

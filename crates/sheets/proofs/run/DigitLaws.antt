@@ -1,22 +1,26 @@
 -- Eight digits of a number at once. Assumes nothing.
-use Prim.Native.Nat.{ℕ, zero, suc, ◌+◌, ◌-◌, ◌*◌, ◌/◌, ◌%◌, ◌<◌, ◌≤◌}
-use native.Mathlib.Numerals.{sub-one}
+use Prim.Native.Nat.{ℕ, zero, suc, ◌+◌, ◌*◌, ◌/◌, ◌%◌, ◌^◌, ◌<◌, ◌≤◌}
 use native.Mathlib.Omega.{arith}
 use mathlib.Core.Path.{◌≡◌, refl, sym, ap, ap₂, ◌∙◌, subst}
 use mathlib.Core.List.{List, [], ◌∷◌}
 use mathlib.Core.Bool.{Bool, true, false, cond}
 use lib.Dec.{ltb}
-use lib.ListN.{length, set}
+use lib.ListN.{length}
 use borrow.Author.Tests.{ltb-true, ltb-false}
 use lib.Pow.{shr-shr}
 use lib.Bits.{bit_and, and_block}
 use Rattle.sheets.specs.Output.{hex_digit, hex}
-use Rattle.sheets.specs.code.run.Digits.{bytes}
-use Rattle.sheets.specs.code.run.Writing.{writes, Written}
+use Rattle.std.specs.Int.{w64, byte_at, bytes_low_first, to_le_bytes}
+use native.Mathlib.Nat.{div-one, div-div-eq-div-mul, pow-suc}
+use Rattle.sheets.specs.code.run.Writing.{Written}
 use Rattle.sheets.proofs.run.WritingLaws.{written_then}
 use Rattle.sheets.proofs.run.SpreadLaws.{mask, kept, and_kept, turn, spread_a, spread_b, half_c, turn_is, spread_a-is, spread_b-is, half_c-is}
 
 -- ---- the digits' values as the bytes of a word, the lowest first
+
+abbrev bytes : ℕ → ℕ → List ℕ
+bytes zero n = []
+bytes (suc k) n = n % 256 ∷ bytes k (n / 256)
 
 abbrev word : List ℕ → ℕ
 word [] = 0
@@ -158,7 +162,22 @@ low-four n =
 past-four : (n : ℕ) → n / 0x1_0000 ≡ n / 16 / 16 / 16 / 16
 past-four n = sym (ap (λ (k : ℕ). k / 16) (ap (λ (k : ℕ). k / 16) (shr-shr n 4 4) ∙ shr-shr n 8 4) ∙ shr-shr n 12 4)
 
-pub eight : (n : ℕ) → bytes 8 (digits (half_c (spread_b (spread_a (turn n))))) ≡ hex 8 n []
+-- the bytes that the code takes of the word
+low-first : (i k n : ℕ) → bytes_low_first i k n ≡ bytes k (n / 256 ^ i)
+low-first i zero n = refl
+low-first i (suc k) n = ap₂ (λ (b : ℕ) (bs : List ℕ). b ∷ bs) (here i) (low-first (suc i) k n ∙ ap (bytes k) (sym (further i)))
+  where
+    here : (i : ℕ) → byte_at i n ≡ n / 256 ^ i % 256
+    here zero = ap (λ (m : ℕ). m % 256) (sym (div-one n))
+    here (suc i) = refl
+
+    further : (i : ℕ) → n / 256 ^ i / 256 ≡ n / 256 ^ suc i
+    further i = div-div-eq-div-mul n (256 ^ i) 256 ∙ ap (λ (m : ℕ). n / m) (sym (pow-suc 256 i))
+
+le-bytes : (n : ℕ) → to_le_bytes w64 n ≡ bytes 8 n
+le-bytes n = low-first 0 8 n ∙ ap (bytes 8) (div-one n)
+
+pub eight : (n : ℕ) → to_le_bytes w64 (digits (half_c (spread_b (spread_a (turn n))))) ≡ hex 8 n []
 eight n =
     let n₁ = n / 16 in
     let n₂ = n₁ / 16 in
@@ -169,7 +188,8 @@ eight n =
     let n₇ = n₆ / 16 in
     let xs = n₇ % 16 ∷ n₆ % 16 ∷ n₅ % 16 ∷ n₄ % 16 ∷ n₃ % 16 ∷ n₂ % 16 ∷ n₁ % 16 ∷ n % 16 ∷ [] in
     let b : Below 16 xs = (below n₇, (below n₆, (below n₅, (below n₄, (below n₃, (below n₂, (below n₁, (below n, tt)))))))) in
-    ap (λ (k : ℕ). bytes 8 (digits k)) (values (n % 16) (n₁ % 16) (n₂ % 16) (n₃ % 16) (n₄ % 16) (n₅ % 16) (n₆ % 16) (n₇ % 16) n (below n) (below n₁) (below n₂) (below n₃) (below n₄) (below n₅) (below n₆) (below n₇) (low-four n) (ap (λ (k : ℕ). k % 0x1_0000) (past-four n) ∙ low-four n₄))
+    le-bytes (digits (half_c (spread_b (spread_a (turn n)))))
+    ∙ ap (λ (k : ℕ). bytes 8 (digits k)) (values (n % 16) (n₁ % 16) (n₂ % 16) (n₃ % 16) (n₄ % 16) (n₅ % 16) (n₆ % 16) (n₇ % 16) n (below n) (below n₁) (below n₂) (below n₃) (below n₄) (below n₅) (below n₆) (below n₇) (low-four n) (ap (λ (k : ℕ). k % 0x1_0000) (past-four n) ∙ low-four n₄))
     ∙ ap (bytes 8) (digits_are (n₇ % 16) (n₆ % 16) (n₅ % 16) (n₄ % 16) (n₃ % 16) (n₂ % 16) (n₁ % 16) (n % 16) b)
     ∙ bytes-is (each hex_digit xs) (digits-below xs b)
   where
@@ -178,21 +198,10 @@ eight n =
 
 -- ---- the digits written
 
--- one turn of the loop over the bytes
-pub bytes-turn : (o : List ℕ) (i left d : ℕ) (w : List ℕ) → 0 < left → writes o i (bytes left d) ≡ w → writes (set o i (d % 256)) (i + 1) (bytes (left - 1) (d / 256)) ≡ w
-unfolding writes
-bytes-turn o i zero d w pos inv = absurd (omega arith)
-bytes-turn o i (suc k) d w pos inv = rw sub-one inv
-
-pub bytes-written : (o d : List ℕ) (at i left r n : ℕ) → left ≤ 0 → i + left ≡ at + 8 → writes o i (bytes left r) ≡ writes d at (hex 8 n []) → Written d at (hex 8 n []) o i
-unfolding writes
-bytes-written o d at i zero r n le end inv = record { is = inv; end = omega arith }
-bytes-written o d at i (suc k) r n le end inv = absurd (omega arith)
-
 past-eight : (n : ℕ) → n / 0x1_0000_0000 ≡ n / 16 / 16 / 16 / 16 / 16 / 16 / 16 / 16
 past-eight n = sym (shr-shr n 16 16) ∙ ap (λ (k : ℕ). k / 0x1_0000) (past-four n) ∙ past-four (n / 16 / 16 / 16 / 16)
 
 -- eight digits after eight
-pub sixteen : (n : ℕ) {d e f : List ℕ} {at m r : ℕ} → Written d at (hex 8 (n / 0x1_0000_0000) []) e m → Written e m (hex 8 n []) f r → Written d at (hex 16 n []) f r
-sixteen n {d} {e} {f} {at} {m} {r} p q =
-    subst (λ (k : ℕ). Written d at (hex 8 k (hex 8 n [])) f r) (past-eight n) (written_then (hex 8 (n / 0x1_0000_0000) []) (hex 8 n []) p q)
+pub sixteen : (n : ℕ) {x y d e f : List ℕ} {at m r : ℕ} → x ≡ hex 8 (n / 0x1_0000_0000) [] → y ≡ hex 8 n [] → Written d at x e m → Written e m y f r → Written d at (hex 16 n []) f r
+sixteen n {x} {y} {d} {e} {f} {at} {m} {r} ex ey p q =
+    subst (λ (k : ℕ). Written d at (hex 8 k (hex 8 n [])) f r) (past-eight n) (written_then (hex 8 (n / 0x1_0000_0000) []) (hex 8 n []) (rw ex at p) (rw ey at q))

@@ -3,7 +3,7 @@ use Prim.Native.Nat.{ℕ, zero, suc, ◌+◌, ◌*◌, ◌<◌, ◌≤◌}
 use native.Mathlib.Omega.{arith}
 use mathlib.Core.Path.{◌≡◌, refl, sym, ap, subst, ◌∙◌}
 use mathlib.Core.Logic.{inl, inr}
-use mathlib.Core.Bool.{Bool, true, false}
+use mathlib.Core.Bool.{Bool, true, false, true≢false}
 use mathlib.Core.List.{List, [], ◌∷◌, ◌++◌, append-nil}
 use mathlib.Core.Option.{Option, none, some}
 use lib.Dec.{eqb, leb}
@@ -115,15 +115,15 @@ lined-let ps words n lets l room w iw x i = record {
 
 -- ---- the places kept
 
-zeros-at : (n j : ℕ) → ◌≡◌ {A = ℕ} (get_or (replicate n 0) j 0) 0
-zeros-at zero j = refl
-zeros-at (suc n) zero = refl
-zeros-at (suc n) (suc j) = zeros-at n j
+none-at : (n j : ℕ) → get_or (replicate n false) j false ≡ false
+none-at zero j = refl
+none-at (suc n) zero = refl
+none-at (suc n) (suc j) = none-at n j
 
-pub fixes-none : (lets : ℕ → ℕ) (f : List Float) (n : ℕ) → FixesKept [] lets (replicate 96 0) f n
-fixes-none lets f n = record { size = length-replicate {A = ℕ} 96 0; kept = λ x i. absurd i; from = λ j h. absurd (omega (arith, zeros-at 96 j)) }
+pub fixes-none : (lets : ℕ → ℕ) (f : List Float) (n : ℕ) → FixesKept [] lets (replicate 96 false) f n
+fixes-none lets f n = record { size = length-replicate 96 false; kept = λ x i. absurd i; from = λ j h. absurd (true≢false (sym h ∙ none-at 96 j)) }
 
-module _ (fs : List Fix) (lets : ℕ → ℕ) (js : List ℕ) (f : List Float) (n : ℕ) (h : FixesKept fs lets js f n) where
+module _ (fs : List Fix) (lets : ℕ → ℕ) (js : List Bool) (f : List Float) (n : ℕ) (h : FixesKept fs lets js f n) where
   -- a let gives the place after the last name
   pub fixes-let : (i : ℕ) (g : List Float) → KeptBelow f (21 * (n + 1)) g → FixesKept fs (let_at lets n i) js g (n + 1)
   unfolding value_at
@@ -140,9 +140,9 @@ module _ (fs : List Fix) (lets : ℕ → ℕ) (js : List ℕ) (f : List Float) (
       moved j x a = record { few = omega (arith, a.few); line = let-before lets n i j a.few ∙ a.line; lies = same j a.few ∙ a.lies }
 
   -- a g value more, at the place j
-  fixes-more : (x : Fix) (j : ℕ) → j < 96 → FixAt lets f n j x → FixesKept (fs ++ (x ∷ [])) lets (set js j 1) f n
+  fixes-more : (x : Fix) (j : ℕ) → j < 96 → FixAt lets f n j x → FixesKept (fs ++ (x ∷ [])) lets (set js j true) f n
   fixes-more x j few a = record {
-    size = length-set js j 1 ∙ h.size;
+    size = length-set js j true ∙ h.size;
     kept = λ y i. elim (in_either y fs (x ∷ []) i) [
       | inl k ↦ let (p, b, m) = h.kept y k in (p, b, marked p m (eqb p j) refl)
       | inr k ↦ (j, subst (FixAt lets f n j) (sym (only y k)) a, here)
@@ -150,23 +150,23 @@ module _ (fs : List Fix) (lets : ℕ → ℕ) (js : List ℕ) (f : List Float) (
     from = λ p m. from p m (eqb p j) refl;
   }
     where
-      here : get_or (set js j 1) j 0 ≡ 1
-      here = get_or-set_same js j 1 0 (omega (arith, h.size))
+      here : get_or (set js j true) j false ≡ true
+      here = get_or-set_same js j true false (omega (arith, h.size))
 
       only : (y : Fix) → In y (x ∷ []) → y ≡ x
       only y (inl e) = e
       only y (inr x'') = elim x'' [ ]
 
-      marked : (p : ℕ) → get_or js p 0 ≡ 1 → (b : Bool) → eqb p j ≡ b → get_or (set js j 1) p 0 ≡ 1
-      marked p m true e = ap (λ p. get_or (set js j 1) p 0) (eqb-true p j e) ∙ here
-      marked p m false e = get_or-set_other js j p 1 0 (eqb-false p j e) ∙ m
+      marked : (p : ℕ) → get_or js p false ≡ true → (b : Bool) → eqb p j ≡ b → get_or (set js j true) p false ≡ true
+      marked p m true e = ap (λ p. get_or (set js j true) p false) (eqb-true p j e) ∙ here
+      marked p m false e = get_or-set_other js j p true false (eqb-false p j e) ∙ m
 
-      from : (p : ℕ) → get_or (set js j 1) p 0 ≡ 1 → (b : Bool) → eqb p j ≡ b → (y : Fix) × In y (fs ++ (x ∷ [])) × FixAt lets f n p y
+      from : (p : ℕ) → get_or (set js j true) p false ≡ true → (b : Bool) → eqb p j ≡ b → (y : Fix) × In y (fs ++ (x ∷ [])) × FixAt lets f n p y
       from p m true e = (x, in_right x fs (x ∷ []) (inl refl), subst (λ p. FixAt lets f n p x) (sym (eqb-true p j e)) a)
-      from p m false e = let (y, i, b) = h.from p (sym (get_or-set_other js j p 1 0 (eqb-false p j e)) ∙ m) in (y, in_left y fs (x ∷ []) i, b)
+      from p m false e = let (y, i, b) = h.from p (sym (get_or-set_other js j p true false (eqb-false p j e)) ∙ m) in (y, in_left y fs (x ∷ []) i, b)
 
 -- a show keeps the place of a g
-pub fixes-show : (es : List Entry) (lets : ℕ → ℕ) (js : List ℕ) (f : List Float) (n : ℕ) → FixesKept (fixes es) lets js f n → (i : ℕ) (g : Given Value) (j : ℕ) → j < 96
+pub fixes-show : (es : List Entry) (lets : ℕ → ℕ) (js : List Bool) (f : List Float) (n : ℕ) → FixesKept (fixes es) lets js f n → (i : ℕ) (g : Given Value) (j : ℕ) → j < 96
     → ((p : GeocentricPosition) → held 𝐠 g.value ≡ some p → FixAt lets f n j (record { line = g.line; position = p })) → FixesKept (fixes (es ++ (shown i g ∷ []))) lets (keep js j (held 𝐠 g.value)) f n
 unfolding fixes
 fixes-show es lets js f n h i g j few a = subst (λ fs. FixesKept fs lets (keep js j (held 𝐠 g.value)) f n) (sym (fixes-append es (shown i g ∷ []))) (go (held 𝐠 g.value) a)

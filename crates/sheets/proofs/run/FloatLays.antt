@@ -82,30 +82,14 @@ three-limit (suc (suc (suc (suc (suc n))))) a b d f i = of-each later-kinds (of-
 pub laid_then : (f xs ys : List Float) (i j : ℕ) {g h : List Float} → g ≡ lay f i xs → j ≡ i + length xs → h ≡ lay g j ys → h ≡ lay f i (xs ++ ys)
 laid_then f xs ys i j a e b = rw (b, a, e) (sym (lay-append xs ys f i))
 
--- ---- floats copied one by one
+-- ---- floats copied
 
--- the first n of them are
-pub record Copying (f : List Float) (from to n : ℕ) (f' : List Float) : Type 0 where
-  pub kept : KeptBelow f to f'
-  pub is : length f ≡ 2940 → from + 21 ≤ to → (m : ℕ) → m < n → float_at f' (to + m) ≡ float_at f (from + m)
-
-module _ (f : List Float) (from to : ℕ) where
-  pub copying-none : Copying f from to 0 f
-  copying-none = record { kept = kept_refl f to; is = λ lf apart m h. absurd (omega arith) }
-
-  module _ (n : ℕ) (g : List Float) (c : Copying f from to n g) where
-    pub copying-next : n < 21 → to + 21 ≤ 2940 → Copying f from to (n + 1) (set g (to + n) (float_at g (from + n)))
-    copying-next few room = record {
-      kept = kept_trans f g _ to (to + n) c.kept (kept_set g (to + n) _) (omega arith);
-      is = λ lf apart m h. go lf apart m h (eqb m n) refl;
-    }
-      where
-        go : length f ≡ 2940 → from + 21 ≤ to → (m : ℕ) → m < n + 1 → (b : Bool) → eqb m n ≡ b → float_at (set g (to + n) (float_at g (from + n))) (to + m) ≡ float_at f (from + m)
-        go lf apart m h true q =
-            rw (eqb-true m n q) (get_or-set_same g (to + n) (float_at g (from + n)) nan (omega (arith, few, room, lf, c.kept.size)) ∙ c.kept.below (from + n) (omega (arith, few, apart)))
-        go lf apart m h false q =
-            let d : (m ≡ n → ⊥) = eqb-false m n q in
-            get_or-set_other g (to + n) (to + m) (float_at g (from + n)) nan (λ e. omega arith) ∙ c.is lf apart m (omega arith)
-
-    pub copying-all : 21 ≤ n → Copied f from to g
-    copying-all many = record { kept = c.kept; is = λ lf apart m h. c.is lf apart m (omega arith) }
+pub floats-copied : (f f' : List Float) (from to : ℕ) → length f' ≡ length f
+    → ((k : ℕ) (d : Float) → to ≤ k → k < to + 21 → get_or f' k d ≡ get_or f (from + (k - to)) d) → ((k : ℕ) (d : Float) → k < to → get_or f' k d ≡ get_or f k d) → Copied f from to f'
+floats-copied f f' from to l here below = record {
+  kept = record { size = l; below = λ j h. below j nan h };
+  is = λ lf apart m h. here (to + m) nan (omega arith) (omega arith) ∙ ap (λ k. float_at f (from + k)) (back m);
+}
+  where
+    back : (m : ℕ) → to + m - to ≡ m
+    back m = omega arith

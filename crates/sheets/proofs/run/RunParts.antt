@@ -1,16 +1,17 @@
 -- The pieces of the run over the lines: a law for each way out of `put_readings`, `let_value` and `stopped`. Assumes nothing.
-use Prim.Native.Nat.{ℕ, ◌+◌, ◌<◌, ◌≤◌}
+use Prim.Native.Nat.{ℕ, ◌+◌, ◌-◌, ◌<◌, ◌≤◌}
 use native.Mathlib.Omega.{arith}
 use mathlib.Core.Path.{◌≡◌, refl, sym, ap, subst, ◌∙◌}
 use mathlib.Core.Bool.{Bool, true, false}
-use mathlib.Core.List.{List, [], ◌∷◌}
-use lib.Dec.{eqb, leb}
-use lib.ListN.{length, get_or, set, replicate, length-set, length-replicate, get_or-replicate, get_or-eq_default}
-use lib.Seq.{get_or-set_same, get_or-set_other}
+use mathlib.Core.List.{List, [], ◌∷◌, ◌++◌}
+use lib.Dec.{ltb}
+use lib.ListN.{length, get_or, take, drop, replicate, length-append, length-drop, length-replicate, get_or-replicate, get_or-eq_default, get_or-append}
+use lib.Seq.{length-take-le}
+use Rattle.std.proofs.lemmas.List.{get_or-take, get_or-drop, get_or-append_right}
 use lib.Ieee.{Float, nan}
 use types.Run.{OneOf, miss}
 use denote.Enum.Declared.{tag_of}
-use borrow.Author.Tests.{eqb-true, eqb-false, leb-true, leb-false}
+use borrow.Author.Tests.{ltb-true, ltb-false}
 use Rattle.numbers.specs.Ops.{num}
 use Rattle.frames.specs.declared.Ellipsoid.{Ellipsoid}
 use Rattle.sheets.specs.declared.Value.{Value}
@@ -31,41 +32,27 @@ use Rattle.sheets.specs.contracts.Evaluated as evaluation
 
 -- ---- the readings among the floats
 
--- the first i are stored, where there were only zeros
-pub record Putting (rs f : List Float) (i : ℕ) (g : List Float) : Type 0 where
-  pub is : f ≡ replicate 2940 (num 0) → (length g ≡ 2940) × ((j : ℕ) → j < i → float_at g j ≡ get_or rs j (num 0)) × ((j : ℕ) → i ≤ j → j < 16 → float_at g j ≡ num 0)
+-- the first n of them are stored, which are all or sixteen, where there were only zeros
+pub readings-put : (rs f : List Float) (n : ℕ) {x : List Float} → n ≤ 16 → n ≤ length rs → ((j : ℕ) → n ≤ j → j < 16 → length rs ≤ j) → x ≡ take n rs → WithReadings rs f (x ++ drop n f)
+readings-put rs f n {x} few inside all ex = record { is = λ e. (size e, λ j h. go e j h (ltb j n) refl) }
+  where
+    l : length x ≡ n
+    l = ap length ex ∙ length-take-le n rs inside
 
-pub putting-none : (rs f : List Float) → Putting rs f 0 f
-putting-none rs f = record {
-  is = λ e. (ap length e ∙ length-replicate 2940 (num 0), λ j h. absurd (omega arith), λ j h l. ap (λ g. float_at g j) e ∙ get_or-replicate 2940 j (num 0) nan (omega arith));
-}
+    size : f ≡ replicate 2940 (num 0) → length (x ++ drop n f) ≡ 2940
+    size e = omega (arith, length-append x (drop n f), length-drop n f, ap length e, length-replicate 2940 (num 0), l, few)
 
-module _ (rs f : List Float) (i : ℕ) (g : List Float) (p : Putting rs f i g) where
-  pub putting-next : i < 16 → i < length rs → Putting rs f (i + 1) (set g i (float_at rs i))
-  putting-next few inside = record {
-    is = λ e. (
-      length-set g i _ ∙ (p.is e).0,
-      λ j h. go e j h (eqb j i) refl,
-      λ j h l. get_or-set_other g i j _ nan (λ z. omega arith) ∙ (p.is e).2 j (omega arith) l,
-    );
-  }
-    where
-      go : f ≡ replicate 2940 (num 0) → (j : ℕ) → j < i + 1 → (b : Bool) → eqb j i ≡ b → float_at (set g i (float_at rs i)) j ≡ get_or rs j (num 0)
-      go e j h true q = rw (eqb-true j i q) (get_or-set_same g i (float_at rs i) nan (omega (arith, few, (p.is e).0)) ∙ get_or-inside rs i nan (num 0) inside)
-      go e j h false q =
-          let d : (j ≡ i → ⊥) = eqb-false j i q in
-          get_or-set_other g i j (float_at rs i) nan (λ z. omega arith) ∙ (p.is e).1 j (omega arith)
-
-  pub putting-all : 16 ≤ i → WithReadings rs f g
-  putting-all h = record { is = λ e. ((p.is e).0, λ j l. (p.is e).1 j (omega arith)) }
-
-  -- the readings end before the sixteenth
-  pub putting-lacking : length rs ≤ i → WithReadings rs f g
-  putting-lacking h = record { is = λ e. ((p.is e).0, λ j l. go e j l (leb i j) refl) }
-    where
-      go : f ≡ replicate 2940 (num 0) → (j : ℕ) → j < 16 → (b : Bool) → leb i j ≡ b → float_at g j ≡ get_or rs j (num 0)
-      go e j l true q = (p.is e).2 j (leb-true i j q) l ∙ sym (get_or-eq_default rs (num 0) (omega (arith, leb-true i j q)))
-      go e j l false q = (p.is e).1 j (leb-false i j q)
+    go : f ≡ replicate 2940 (num 0) → (j : ℕ) → j < 16 → (b : Bool) → ltb j n ≡ b → float_at (x ++ drop n f) j ≡ get_or rs j (num 0)
+    go e j h true q =
+        let i : j < n = ltb-true j n q in
+        get_or-append x (drop n f) nan j (omega (arith, l)) ∙ ap (λ y. get_or y j nan) ex ∙ get_or-take n rs j nan i ∙ get_or-inside rs j nan (num 0) (omega (arith, inside))
+    go e j h false q =
+        let i : n ≤ j = ltb-false j n q in
+        get_or-append_right x (drop n f) n j nan l i
+        ∙ get_or-drop n f (j - n) nan
+        ∙ ap (λ y. float_at y (n + (j - n))) e
+        ∙ get_or-replicate 2940 (n + (j - n)) (num 0) nan (omega arith)
+        ∙ sym (get_or-eq_default rs (num 0) (all j i h))
 
 -- ---- no value
 

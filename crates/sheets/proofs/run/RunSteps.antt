@@ -16,6 +16,7 @@ use Rattle.sheets.specs.declared.reader.lines.WholeLine.{WholeLine}
 use Rattle.sheets.specs.declared.reader.lines.LineHead.{LineHead}
 use Rattle.sheets.specs.declared.answers.RunAnswer.{RunAnswer}
 use Rattle.sheets.specs.declared.Evaluated.{Evaluated}
+use Rattle.sheets.specs.declared.run.shown.Shown.{Shown}
 use Rattle.sheets.specs.Text.{Word}
 use Rattle.sheets.specs.Trees.{Expr, Line, let_line, numbered}
 use Rattle.sheets.specs.Grammar.{IsWord, after as after_phase}
@@ -33,7 +34,7 @@ use Rattle.sheets.specs.code.reader.Views.{line_head}
 use Rattle.sheets.specs.code.check.Newest as Search
 use Rattle.sheets.specs.code.run.Floats.{Lies}
 use Rattle.sheets.specs.code.run.Known.{Tabled, Ready}
-use Rattle.sheets.specs.code.run.Keeping.{Lined, FixesKept}
+use Rattle.sheets.specs.code.run.Keeping.{nothing_kept, Lined, FixesKept}
 use Rattle.sheets.specs.code.run.Evaluating.{Answers}
 use Rattle.sheets.specs.code.run.Running.{WithReadings, LetWith, GivenAt, stopped_at, Runs}
 use Rattle.sheets.specs.code.run.Wholes.{Names, LineDoes}
@@ -62,18 +63,18 @@ zeros : replicate 2940 (of_bits binary64 0) ≡ replicate 2940 (num 0)
 unfolding of_bits decimal
 zeros = ap (replicate 2940) refl
 
-zero-sum : metres (of_bits binary64 0) ≡ total []
-unfolding of_bits decimal total
-zero-sum = refl
+sum-none : metres (num 0) ≡ total []
+unfolding total
+sum-none = refl
 
 -- before line 2
-abbrev first : ℕ → Slot → List Float → List ℕ → Stage
-first at x f d = record { at = at; line = 2; slots = replicate 96 x; words = replicate 96 0; kinds = replicate 96 0; newest = replicate 512 0; shown = replicate 96 0; sum = of_bits binary64 0; floats = f; n = 0; written = 0; out = d }
+abbrev first : ℕ → Slot → Shown → List Float → List ℕ → Stage
+first at x k f d = record { at = at; line = 2; slots = replicate 96 x; words = replicate 96 0; kinds = replicate 96 0; newest = replicate 512 0; shown = k; floats = f; n = 0; written = 0; out = d }
 
-pub runs-start : (s : List ℕ) (at : ℕ) → 2 ≡ line_number s at → (e : Ellipsoid) (rs : List Float) (d : List ℕ) (x : Slot) (f : List Float) → WithReadings rs (replicate 2940 (of_bits binary64 0)) f
-    → (r : RunAnswer) (out' : List ℕ) → RunsFrom s e rs d (first at x f d) r out' → Runs s at e rs d r out'
+pub runs-start : (s : List ℕ) (at : ℕ) → 2 ≡ line_number s at → (e : Ellipsoid) (rs : List Float) (d : List ℕ) (x : Slot) (k : Shown) → k ≡ nothing_kept → (f : List Float) → WithReadings rs (replicate 2940 (of_bits binary64 0)) f
+    → (r : RunAnswer) (out' : List ℕ) → RunsFrom s e rs d (first at x k f d) r out' → Runs s at e rs d r out'
 unfolding fixes
-runs-start s at two e rs d x f hf r out' h = record {
+runs-start s at two e rs d x k nk f hf r out' h = record {
   is = λ size ls el st ee ek en un.
       h.is ls st (record {
         size = size;
@@ -88,8 +89,8 @@ runs-start s at two e rs d x f hf r out' h = record {
         lets = no_lets;
         rising = rising_none;
         lined = subst (λ ps. Lined ps (replicate 96 0) 0 no_lets) (sym ek) (lined-start rs _);
-        kept = subst (λ es. FixesKept (fixes es) no_lets (replicate 96 0) f 0) (sym en) (fixes-none no_lets f 0);
-        sums = zero-sum ∙ ap total (sym en);
+        kept = subst (λ es. FixesKept (fixes es) no_lets k.places f 0) (sym en) (subst (λ (k : Shown). FixesKept [] no_lets k.places f 0) (sym nk) (fixes-none no_lets f 0));
+        sums = ap (λ (k : Shown). k.sum) nk ∙ sum-none ∙ ap total (sym en);
         count = ap (λ es. length (entry_lines es)) (sym en);
         bound = omega arith;
         text = ap (λ es. laid (entry_lines es) d) (sym en);
@@ -160,7 +161,7 @@ module _ {s : List ℕ} {e : Ellipsoid} {rs : List Float} {d : List ℕ} {h : St
 
       -- the name's slot is filled
       pub runs-let : (kind next : ℕ) → r ≡ Evaluated.Is kind next → h.n < 95 → (y : Slot) (words kinds newest : List ℕ) → GivenAt code kind (h.n + 1) g h.words h.kinds h.newest y words kinds newest → (q : RunAnswer) (out' : List ℕ)
-          → RunsFrom s e rs d (record { at = next; line = h.line + 1; slots = set h.slots (h.n + 1) y; words = words; kinds = kinds; newest = newest; shown = h.shown; sum = h.sum; floats = g; n = h.n + 1; written = h.written; out = h.out }) q out'
+          → RunsFrom s e rs d (record { at = next; line = h.line + 1; slots = set h.slots (h.n + 1) y; words = words; kinds = kinds; newest = newest; shown = h.shown; floats = g; n = h.n + 1; written = h.written; out = h.out }) q out'
           → RunsFrom s e rs d h q out'
       runs-let kind next er few y words kinds newest hg q out' hr = by-line q out' (λ ls st now sp un.
           let (x, ex, an) = let-here ls st now sp.line sp.next sp.stands in
@@ -183,7 +184,7 @@ module _ {s : List ℕ} {e : Ellipsoid} {rs : List Float} {d : List ℕ} {h : St
             rising = rising-let now.lets h.n h.line now.rising;
             lined = subst (λ ws. Lined (given_on h.line says.0 v ∷ st.scope.known) ws (h.n + 1) (let_at now.lets h.n h.line)) (sym (hg.words_are ∙ ap (set h.words (h.n + 1)) (sym says.2))) (subst (λ z. Lined (given_on h.line says.0 v ∷ st.scope.known) (set h.words z (code_of says.0)) z (let_at now.lets h.n h.line)) (omega arith)
                 (lined-let st.scope.known h.words h.n now.lets now.lined (omega (arith, few, now.listed.sizes.0)) says.0 says.1 v h.line));
-            kept = fixes-let (fixes st.entries) now.lets h.shown h.floats h.n now.kept h.line g an.kept;
+            kept = fixes-let (fixes st.entries) now.lets h.shown.places h.floats h.n now.kept h.line g an.kept;
             sums = now.sums;
             count = now.count;
             bound = omega (arith, now.bound);
@@ -193,13 +194,13 @@ module _ {s : List ℕ} {e : Ellipsoid} {rs : List Float} {d : List ℕ} {h : St
     -- ---- a line that is read whole
 
     module _ (head : LineHead) (eh : head ≡ line_head s h.at) (y : WholeLine) (next : ℕ) (is : head ≡ LineHead.Whole y next) (high : h.line ≤ 96)
-        (c : ℕ) (hc : Names y c) (j : ℕ) (hj : Search.Placed h.words h.newest c j) (x : Slot) (r : Evaluated) (shown : List ℕ) (sum : Float) (out : List ℕ) (hr : LineDoes s y j (get_or h.slots j x).value h.floats h.shown h.sum h.out h.written r shown sum out) where
-      whole_here : (ls : List Line) (st : State) (now : Now s e rs d h ls st) (l : Line) (m : ℕ) → read_line s h.at ≡ got l m → (next ≡ m) × Comes h now.lets d st l r shown sum out
+        (c : ℕ) (hc : Names y c) (j : ℕ) (hj : Search.Placed h.words h.newest c j) (x : Slot) (r : Evaluated) (shown : Shown) (out : List ℕ) (hr : LineDoes s y j (get_or h.slots j x).value h.floats h.shown h.out h.written r shown out) where
+      whole_here : (ls : List Line) (st : State) (now : Now s e rs d h ls st) (l : Line) (m : ℕ) → read_line s h.at ≡ got l m → (next ≡ m) × Comes h now.lets d st l r shown out
       whole_here ls st now l m el =
           let (k, t, ek) = head-says s h.at head eh _ is in
           let same = (limit-read h.at (got k next) l m (sym ek ∙ el)).0 in
           let kl : k ≡ l = cc in
-          (cc, subst (λ k. Comes h now.lets d st k r shown sum out) kl (whole-comes now high r shown sum out y k t c hc j hj x hr))
+          (cc, subst (λ k. Comes h now.lets d st k r shown out) kl (whole-comes now high r shown out y k t c hc j hj x hr))
 
       pub runs-whole-not : NotIs r → (a : RunAnswer) → a ≡ stopped_at r h.line h.written → RunsFrom s e rs d h a out
       runs-whole-not m a ea = by-line a out (λ ls st now sp un.
@@ -208,7 +209,7 @@ module _ {s : List ℕ} {e : Ellipsoid} {rs : List Float} {d : List ℕ} {h : St
 
       -- the text may grow by a line
       pub runs-whole : 2 ≤ h.line → (kind count : ℕ) → r ≡ Evaluated.Is kind count → (q : RunAnswer) (out' : List ℕ)
-          → RunsFrom s e rs d (record { at = next; line = h.line + 1; slots = h.slots; words = h.words; kinds = h.kinds; newest = h.newest; shown = shown; sum = sum; floats = h.floats; n = h.n; written = count; out = out }) q out'
+          → RunsFrom s e rs d (record { at = next; line = h.line + 1; slots = h.slots; words = h.words; kinds = h.kinds; newest = h.newest; shown = shown; floats = h.floats; n = h.n; written = count; out = out }) q out'
           → RunsFrom s e rs d h q out'
       runs-whole low kind count er q out' on = by-line q out' (λ ls st now sp un.
           let (en, comes) = whole_here ls st now sp.line sp.next sp.stands in

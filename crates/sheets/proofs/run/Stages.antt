@@ -4,9 +4,9 @@ use mathlib.Core.Path.{◌≡◌}
 use mathlib.Core.List.{List}
 use lib.ListN.{length}
 use lib.Ieee.{Float}
-use Rattle.numbers.specs.Lengths.{metres}
 use Rattle.frames.specs.declared.Ellipsoid.{Ellipsoid}
 use Rattle.sheets.specs.declared.rows.value.Slot.{Slot}
+use Rattle.sheets.specs.declared.run.shown.Shown.{Shown}
 use Rattle.sheets.specs.Trees.{Line}
 use Rattle.sheets.specs.LineNumbers.{line_number}
 use Rattle.sheets.specs.Entries.{entry_lines, total}
@@ -25,8 +25,7 @@ pub record Stage : Type 0 where
   pub words : List ℕ
   pub kinds : List ℕ
   pub newest : List ℕ
-  pub shown : List ℕ
-  pub sum : Float
+  pub shown : Shown
   pub floats : List Float
   pub n : ℕ
   pub written : ℕ
@@ -46,8 +45,8 @@ pub record Now (s : List ℕ) (e : Ellipsoid) (rs : List Float) (d : List ℕ) (
   pub lets : ℕ → ℕ
   pub rising : Rising lets h.n h.line
   pub lined : Lined st.scope.known h.words h.n lets
-  pub kept : FixesKept (fixes st.entries) lets h.shown h.floats h.n
-  pub sums : metres h.sum ≡ total st.entries
+  pub kept : FixesKept (fixes st.entries) lets h.shown.places h.floats h.n
+  pub sums : h.shown.sum ≡ total st.entries
   pub count : h.written ≡ length (entry_lines st.entries)
   pub bound : h.written ≤ 223 * (h.line - 2)
   pub text : h.out ≡ laid (entry_lines st.entries) d

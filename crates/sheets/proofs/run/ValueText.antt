@@ -13,7 +13,7 @@ use Rattle.sheets.specs.declared.Value.{Value}
 use Rattle.sheets.specs.declared.Value.TheVariants.{Number, Radians, Metres, Geocentric, Geodetic, Vector, Frame}
 use Rattle.sheets.specs.Kinds.{kind_of, kind_code, kind_name, place, vector, frame}
 use Rattle.sheets.specs.Output.{fields, fields_text}
-use Rattle.sheets.specs.code.run.Writing.{writes, Written, zero64, padded, field_count, plain_letter, orientation_text, kind_text, value_text}
+use Rattle.sheets.specs.code.run.Writing.{Written, zero64, padded, field_count, plain_letter, orientation_text, kind_text, value_text}
 use Rattle.sheets.proofs.run.TextBound.{fields-length, few, name-length}
 use Rattle.sheets.proofs.run.FloatLays.{Beyond, beyond-le}
 use Rattle.sheets.proofs.run.WritingLaws.{written_then, fields-then}
@@ -116,14 +116,7 @@ module _ (v : Value) (k : ℕ) (e : k ≡ kind_code (kind_of v)) where
 
 -- ---- one field more
 
-pub fields-none : (d : List ℕ) (at : ℕ) → Written d at [] d at
-unfolding writes
-fields-none d at = record { is = refl; end = omega arith }
-
-pub fields-turn : (row : List Float) (i : ℕ) → i < length row → {d e f : List ℕ} {at m r : ℕ} → m ≡ at + i * 17
-    → Written d at (fields_text (take i row)) e m → Written e m (fields_text (get_or row i nan ∷ [])) f r
-    → (r ≡ at + (i + 1) * 17) × Written d at (fields_text (take (i + 1) row)) f r
-fields-turn row i h k p q = (omega (arith, q.end, fields-length (get_or row i nan ∷ [])), rw (add-one, take-suc row i nan h) (fields-then (take i row) (get_or row i nan ∷ []) p q))
-
-pub fields-end : (row : List Float) (i n : ℕ) → i ≤ n → n ≤ i → {d e : List ℕ} {at r : ℕ} → Written d at (fields_text (take i row)) e r → Written d at (fields_text (take n row)) e r
-fields-end row i n h k p = let e : i ≡ n = omega arith in rw e at p
+pub fields-turn : (xs : List Float) (i : ℕ) → i < length xs → {d e f : List ℕ} {at m r : ℕ} → m ≡ at + i * 17
+    → Written d at (fields_text (take i xs)) e m → Written e m (fields_text (get_or xs i nan ∷ [])) f r
+    → (r ≡ at + (i + 1) * 17) × Written d at (fields_text (take (i + 1) xs)) f r
+fields-turn xs i h k p q = (omega (arith, q.end, fields-length (get_or xs i nan ∷ [])), rw (add-one, take-suc xs i nan h) (fields-then (take i xs) (get_or xs i nan ∷ []) p q))

@@ -1,7 +1,7 @@
--- A line that is read whole: a law for each way out of `named`, `tested_line`, `plus`, `show_value`, `show` and `whole_line`. Assumes nothing.
+-- A line that is read whole: a law for each way out of `named`, `tested_line`, `show_value`, `show` and `whole_line`. Assumes nothing.
 use Prim.Native.Nat.{ℕ, ◌<◌, ◌≤◌}
 use native.Mathlib.Omega.{arith}
-use mathlib.Core.Path.{◌≡◌, refl, ap, subst, ◌∙◌}
+use mathlib.Core.Path.{◌≡◌, refl, ap, subst}
 use mathlib.Core.Bool.{Bool, true, false}
 use mathlib.Core.Option.{some}
 use mathlib.Core.List.{List, [], ◌∷◌}
@@ -9,13 +9,12 @@ use lib.Ieee.{Float}
 use types.Run.{OneOf, miss}
 use denote.Enum.Declared.{tag_of}
 use borrow.Author.Tests.{eq-eqb, ne_eqb, le-leb, lt-leb}
-use Rattle.numbers.specs.Lengths.{metres}
-use Rattle.numbers.specs.declared.Length.{Length}
 use Rattle.sheets.specs.declared.Value.{Value}
 use Rattle.sheets.specs.declared.Value.TheVariants.{Number}
 use Rattle.sheets.specs.declared.reader.lines.NameAt.{NameAt}
 use Rattle.sheets.specs.declared.reader.lines.WholeLine.{WholeLine}
 use Rattle.sheets.specs.declared.Evaluated.{Evaluated}
+use Rattle.sheets.specs.declared.run.shown.Shown.{Shown}
 use Rattle.sheets.specs.Kinds.{kind_of, kind_code}
 use Rattle.sheets.specs.Letters.{𝐥, 𝐠, held}
 use Rattle.sheets.specs.Limits.{in_limit}
@@ -27,7 +26,7 @@ use Rattle.sheets.specs.code.run.Writing.{Written, line_if, room}
 use Rattle.sheets.specs.code.run.Keeping.{keep}
 use Rattle.sheets.specs.code.run.Apart.{apart_answer}
 use Rattle.sheets.specs.code.run.Evaluating.{evaluated}
-use Rattle.sheets.specs.code.run.Wholes.{Names, TestedIf, TestedLine, KeptIf, Shown, ShownAs, TotalLine, Does, LineDoes}
+use Rattle.sheets.specs.code.run.Wholes.{Names, TestedIf, TestedLine, KeptIf, ShownIf, ShownAs, TotalLine, Does, LineDoes}
 use Rattle.sheets.proofs.run.RunParts.{NotIs, not_is}
 use Rattle.sheets.specs.contracts.reader.lines.WholeLine as wholes
 
@@ -73,41 +72,41 @@ module _ (s : List ℕ) (from end : ℕ) (v : Value) (out : List ℕ) (written :
 
 -- ---- a show
 
-module _ (s : List ℕ) (name : NameAt) (v : Value) (j : ℕ) (js : List ℕ) (t : Float) (out : List ℕ) (written : ℕ) (r : Evaluated) (d : List ℕ) (h : TestedLine s name.from name.end v out written r d) where
-  pub show-out : NotIs r → ShownAs s name (some v) j js t out written r js t d
-  unfolding Shown KeptIf
-  show-out n = record { is = (h, rw (tested-not s name.from name.end v out written r d h n).2 (refl, refl)) }
+module _ (s : List ℕ) (name : NameAt) (v : Value) (j : ℕ) (k : Shown) (out : List ℕ) (written : ℕ) (r : Evaluated) (d : List ℕ) (h : TestedLine s name.from name.end v out written r d) where
+  pub show-out : NotIs r → ShownAs s name (some v) j k out written r k d
+  unfolding ShownIf KeptIf
+  show-out n = record { is = (h, rw (tested-not s name.from name.end v out written r d h n).2 refl) }
 
-  pub show-in : (kind m : ℕ) → r ≡ Evaluated.Is kind m → (js' : List ℕ) → js' ≡ keep js j (held 𝐠 v) → (l : Length) → l ≡ metres t → (u : Length) → u ≡ plus l (held 𝐥 v) → (t' : Float) → t' ≡ u.0 → ShownAs s name (some v) j js t out written (Evaluated.Is kind m) js' t' d
-  unfolding Shown KeptIf
-  show-in kind m e js' ej l el u eu t' et = record { is = (subst (λ r. TestedLine s name.from name.end v out written r d) e h, rw (tested-is s name.from name.end v out written r d h kind m e).1 (ej, ap metres et ∙ eu ∙ ap (λ l. plus l (held 𝐥 v)) el)) }
+  pub show-in : (kind m : ℕ) → r ≡ Evaluated.Is kind m → (k' : Shown) → k'.places ≡ keep k.places j (held 𝐠 v) → k'.sum ≡ plus k.sum (held 𝐥 v) → ShownAs s name (some v) j k out written (Evaluated.Is kind m) k' d
+  unfolding ShownIf KeptIf
+  show-in kind m e k' ep es = record { is = (subst (λ r. TestedLine s name.from name.end v out written r d) e h, rw (tested-is s name.from name.end v out written r d h kind m e).1 (ep, es)) }
 
 -- by the word's place
-module _ (s : List ℕ) (name : NameAt) (v : Value) (f : List Float) (j : ℕ) (js : List ℕ) (t : Float) (out : List ℕ) (written : ℕ) where
+module _ (s : List ℕ) (name : NameAt) (v : Value) (f : List Float) (j : ℕ) (k : Shown) (out : List ℕ) (written : ℕ) where
   module _ (z : j ≡ 0) (i : ℕ) (ei : i ≡ reading_index name.code) where
-    pub show-unknown : 16 ≤ i → ShownAs s name (found_at v f name.code j) j js t out written Evaluated.Sticks js t out
-    unfolding found_at Shown
-    show-unknown h = rw (eq-eqb j 0 z, ← ei, le-leb 16 i h) (record { is = (refl, refl, refl, refl) })
+    pub show-unknown : 16 ≤ i → ShownAs s name (found_at v f name.code j) j k out written Evaluated.Sticks k out
+    unfolding found_at ShownIf
+    show-unknown h = rw (eq-eqb j 0 z, ← ei, le-leb 16 i h) (record { is = (refl, refl, refl) })
 
-    pub show-reading : i < 16 → (u : Value) → u ≡ Number (float_at f i) → (r : Evaluated) (js' : List ℕ) (t' : Float) (d : List ℕ) → ShownAs s name (some u) j js t out written r js' t' d → ShownAs s name (found_at v f name.code j) j js t out written r js' t' d
+    pub show-reading : i < 16 → (u : Value) → u ≡ Number (float_at f i) → (r : Evaluated) (k' : Shown) (d : List ℕ) → ShownAs s name (some u) j k out written r k' d → ShownAs s name (found_at v f name.code j) j k out written r k' d
     unfolding found_at
-    show-reading h u eu r js' t' d g = rw (eq-eqb j 0 z, ← ei, lt-leb 16 i h, ← eu) g
+    show-reading h u eu r k' d g = rw (eq-eqb j 0 z, ← ei, lt-leb 16 i h, ← eu) g
 
-  pub show-name : (j ≡ 0 → ⊥) → (u : Value) → u ≡ v → (r : Evaluated) (js' : List ℕ) (t' : Float) (d : List ℕ) → ShownAs s name (some u) j js t out written r js' t' d → ShownAs s name (found_at v f name.code j) j js t out written r js' t' d
+  pub show-name : (j ≡ 0 → ⊥) → (u : Value) → u ≡ v → (r : Evaluated) (k' : Shown) (d : List ℕ) → ShownAs s name (some u) j k out written r k' d → ShownAs s name (found_at v f name.code j) j k out written r k' d
   unfolding found_at
-  show-name z u eu r js' t' d h = rw (ne_eqb j 0 z, ← eu) h
+  show-name z u eu r k' d h = rw (ne_eqb j 0 z, ← eu) h
 
 -- ---- a line by its form
 
-module _ (s : List ℕ) (line : WholeLine) (j : ℕ) (v : Value) (f : List Float) (js : List ℕ) (t : Float) (out : List ℕ) (written : ℕ) (r : Evaluated) (js' : List ℕ) (t' : Float) (d : List ℕ) where
-  pub does-show : (name : NameAt) → line ≡ WholeLine.Show name → ShownAs s name (found_at v f name.code j) j js t out written r js' t' d → LineDoes s line j v f js t out written r js' t' d
+module _ (s : List ℕ) (line : WholeLine) (j : ℕ) (v : Value) (f : List Float) (k : Shown) (out : List ℕ) (written : ℕ) (r : Evaluated) (k' : Shown) (d : List ℕ) where
+  pub does-show : (name : NameAt) → line ≡ WholeLine.Show name → ShownAs s name (found_at v f name.code j) j k out written r k' d → LineDoes s line j v f k out written r k' d
   unfolding Does
   does-show name e h = rw e (record { is = h })
 
-  pub does-total : line ≡ WholeLine.Total → (l : Length) → l ≡ metres t → TotalLine l out written r d → js' ≡ js → t' ≡ t → LineDoes s line j v f js t out written r js' t' d
+  pub does-total : line ≡ WholeLine.Total → TotalLine k.sum out written r d → k' ≡ k → LineDoes s line j v f k out written r k' d
   unfolding Does
-  does-total e l el h ej et = rw e (record { is = (subst (λ l. TotalLine l out written r d) el h, ej, et) })
+  does-total e h ek = rw e (record { is = (h, ek) })
 
-  pub does-apart : (x : Float) → line ≡ WholeLine.Apart x → r ≡ apart_answer x f js written → js' ≡ js → t' ≡ t → d ≡ out → LineDoes s line j v f js t out written r js' t' d
+  pub does-apart : (x : Float) → line ≡ WholeLine.Apart x → r ≡ apart_answer x f k.places written → k' ≡ k → d ≡ out → LineDoes s line j v f k out written r k' d
   unfolding Does
-  does-apart x e er ej et ed = rw e (record { is = (er, ej, et, ed) })
+  does-apart x e er ek ed = rw e (record { is = (er, ek, ed) })

@@ -7,7 +7,6 @@ use mathlib.Core.List.{List, [], ◌∷◌, ◌++◌}
 use mathlib.Core.Option.{Option, none, some}
 use lib.ListN.{length, get_or, length-append}
 use lib.Ieee.{Float}
-use Rattle.numbers.specs.Lengths.{metres}
 use Rattle.frames.specs.declared.GeocentricPosition.{GeocentricPosition}
 use Rattle.frames.specs.declared.Ellipsoid.{Ellipsoid}
 use Rattle.sheets.specs.declared.Value.{Value}
@@ -16,6 +15,7 @@ use Rattle.sheets.specs.declared.rows.value.Slot.{Slot}
 use Rattle.sheets.specs.declared.reader.lines.NameAt.{NameAt}
 use Rattle.sheets.specs.declared.reader.lines.WholeLine.{WholeLine}
 use Rattle.sheets.specs.declared.Evaluated.{Evaluated}
+use Rattle.sheets.specs.declared.run.shown.Shown.{Shown}
 use Rattle.sheets.specs.Text.{Word, ascii}
 use Rattle.sheets.specs.Trees.{Unsigned, signless, Line, show_line, total_line, apart_line}
 use Rattle.sheets.specs.Names.{Given, given_on, lookup, line_of_let}
@@ -36,7 +36,7 @@ use Rattle.sheets.specs.code.run.Known.{word_found}
 use Rattle.sheets.specs.code.run.Keeping.{FixAt, FixesKept}
 use Rattle.sheets.specs.code.run.Apart.{apart_answer}
 use Rattle.sheets.specs.code.run.Evaluating.{evaluated}
-use Rattle.sheets.specs.code.run.Wholes.{Names, TestedLine, KeptIf, Shown, TotalLine, Does, LineDoes}
+use Rattle.sheets.specs.code.run.Wholes.{Names, TestedLine, KeptIf, ShownIf, TotalLine, Does, LineDoes}
 use Rattle.sheets.proofs.reader.Slices.{word-is}
 use Rattle.sheets.proofs.run.TextBound.{line-length, word-length, entries-last}
 use Rattle.sheets.proofs.run.LineText.{line-laid}
@@ -51,29 +51,29 @@ use Rattle.sheets.proofs.run.WholeParts.{tested-not, tested-is}
 use Rattle.sheets.proofs.run.Stages.{Stage, Now}
 
 -- the machine's state behind the line, what is kept of its shows, and its text
-pub record Behind (h : Stage) (lets : ℕ → ℕ) (d : List ℕ) (st st' : State) (shown : List ℕ) (sum : Float) (count : ℕ) (out : List ℕ) : Type 0 where
+pub record Behind (h : Stage) (lets : ℕ → ℕ) (d : List ℕ) (st st' : State) (shown : Shown) (count : ℕ) (out : List ℕ) : Type 0 where
   pub surface : st'.ellipsoid ≡ st.ellipsoid
   pub known : st'.scope.known ≡ st.scope.known
-  pub kept : FixesKept (fixes st'.entries) lets shown h.floats h.n
-  pub sums : metres sum ≡ total st'.entries
+  pub kept : FixesKept (fixes st'.entries) lets shown.places h.floats h.n
+  pub sums : shown.sum ≡ total st'.entries
   pub counted : count ≡ length (entry_lines st'.entries)
   pub bound : count ≤ h.written + 223
   pub text : out ≡ laid (entry_lines st'.entries) d
 
 -- the line does not go on, and nothing is written; or the machine goes on to a state behind it
-pub record Comes (h : Stage) (lets : ℕ → ℕ) (d : List ℕ) (st : State) (l : Line) (r : Evaluated) (shown : List ℕ) (sum : Float) (out : List ℕ) : Type 0 where
+pub record Comes (h : Stage) (lets : ℕ → ℕ) (d : List ℕ) (st : State) (l : Line) (r : Evaluated) (shown : Shown) (out : List ℕ) : Type 0 where
   pub stays : NotIs r → (o : Out Value) × (k : Value → Out State) × (step h.line st l ≡ thenᵒ o k) × (r ≡ evaluated o 0) × (out ≡ h.out)
-  pub goes_on : (kind count : ℕ) → r ≡ Evaluated.Is kind count → (st' : State) × (step h.line st l ≡ goes [] st') × Behind h lets d st st' shown sum count out
+  pub goes_on : (kind count : ℕ) → r ≡ Evaluated.Is kind count → (st' : State) × (step h.line st l ≡ goes [] st') × Behind h lets d st st' shown count out
 
 module _ {s : List ℕ} {e : Ellipsoid} {rs : List Float} {d : List ℕ} {h : Stage} {ls : List Line} {st : State} (now : Now s e rs d h ls st) (high : h.line ≤ 96)
-    (r : Evaluated) (shown : List ℕ) (sum : Float) (out : List ℕ) where
+    (r : Evaluated) (shown : Shown) (out : List ℕ) where
   abbrev Comes-to : Line → Type 0
-  Comes-to l = Comes h now.lets d st l r shown sum out
+  Comes-to l = Comes h now.lets d st l r shown out
 
   -- a line that writes an entry, whose name stands in t, and tests its value
   entry-comes : (l : Line) (a : Entry) (k : Value → Out State) → step h.line st l ≡ thenᵒ (met (entry_value a)) k → k (entry_value a) ≡ goes [] (write st a)
       → (t : List ℕ) (from end : ℕ) → read_word t from ≡ got (entry_name a) end → TestedLine t from end (entry_value a) h.out h.written r out
-      → (in_limit (entry_value a) ≡ true → FixesKept (fixes (st.entries ++ (a ∷ []))) now.lets shown h.floats h.n × (metres sum ≡ total (st.entries ++ (a ∷ [])))) → Comes-to l
+      → (in_limit (entry_value a) ≡ true → FixesKept (fixes (st.entries ++ (a ∷ []))) now.lets shown.places h.floats h.n × (shown.sum ≡ total (st.entries ++ (a ∷ [])))) → Comes-to l
   entry-comes l a k es ek t from end ew tested kept = record {
     stays = λ n. let (er, eo, rest) = tested-not t from end (entry_value a) h.out h.written r out tested n in (met (entry_value a), k, es, er, eo);
     goes_on = λ kind count er.
@@ -101,31 +101,31 @@ module _ {s : List ℕ} {e : Ellipsoid} {rs : List Float} {d : List ℕ} {h : St
 
   show-comes : (name : NameAt) (w : Word) → read_word s name.from ≡ got w name.end → (j : ℕ) → j ≤ h.n → (o : Option Value) → lookup w st.scope.known ≡ o
       → ((v : Value) → o ≡ some v → (p : GeocentricPosition) → held 𝐠 v ≡ some p → FixAt now.lets h.floats h.n j (record { line = line_of_let w st.scope.known; position = p }))
-      → Shown s name o j h.shown h.sum h.out h.written r shown sum out → Comes-to (show_line w)
-  unfolding step Shown KeptIf evaluated
+      → ShownIf s name o j h.shown h.out h.written r shown out → Comes-to (show_line w)
+  unfolding step ShownIf KeptIf evaluated
   show-comes name w ew j few none eo kept sh = record {
-    stays = λ n. (meet none, λ y. goes [] (write st (entry_on w y)), ap (λ o. thenᵒ (meet o) (λ y. goes [] (write st (entry_on w y)))) eo, sh.0, sh.3);
+    stays = λ n. (meet none, λ y. goes [] (write st (entry_on w y)), ap (λ o. thenᵒ (meet o) (λ y. goes [] (write st (entry_on w y)))) eo, sh.0, sh.2);
     goes_on = λ kind count er. let e = sh.0 in let z : ◌≡◌ {A = ℕ} 0 1 = cc in absurd (omega arith);
   }
   show-comes name w ew j few (some v) eo kept sh =
       let g : Given Value = given_on (line_of_let w st.scope.known) w v in
       entry-comes (show_line w) (entry_on w v) _ (ap (λ o. thenᵒ (meet o) (λ y. goes [] (write st (entry_on w y)))) eo) refl s name.from name.end ew sh.0 (λ inside.
-      let (ej, et) = subst (λ b. KeptIf b v j h.shown h.sum shown sum) inside sh.1 in (
-        subst (λ js. FixesKept (fixes (st.entries ++ (entry_on w v ∷ []))) now.lets js h.floats h.n) (sym ej) (fixes-show st.entries now.lets h.shown h.floats h.n now.kept h.line g j (omega (arith, now.listed.few)) (kept v refl)),
+      let (ej, et) = subst (λ b. KeptIf b v j h.shown shown) inside sh.1 in (
+        subst (λ js. FixesKept (fixes (st.entries ++ (entry_on w v ∷ []))) now.lets js h.floats h.n) (sym ej) (fixes-show st.entries now.lets h.shown.places h.floats h.n now.kept h.line g j (omega (arith, now.listed.few)) (kept v refl)),
         et ∙ ap (λ t. plus t (held 𝐥 v)) now.sums ∙ sym (total-show st.entries h.line g),
       ))
 
-  total-comes : TotalLine (metres h.sum) h.out h.written r out → shown ≡ h.shown → sum ≡ h.sum → Comes-to total_line
+  total-comes : TotalLine h.shown.sum h.out h.written r out → shown ≡ h.shown → Comes-to total_line
   unfolding step read_word word_if chars chars_if letter word_char
-  total-comes tested ej et =
+  total-comes tested ek =
       entry-comes total_line (summed (total st.entries)) _ refl refl (ascii "total") 0 5 refl (subst (λ l. TotalLine l h.out h.written r out) now.sums tested) (λ inside. (
-        rw (ej, fixes-total st.entries (total st.entries)) now.kept,
-        ap metres et ∙ now.sums ∙ sym (total-total st.entries (total st.entries)),
+        rw (ek, fixes-total st.entries (total st.entries)) now.kept,
+        ap (λ (k : Shown). k.sum) ek ∙ now.sums ∙ sym (total-total st.entries (total st.entries)),
       ))
 
-  apart-comes : (q : Unsigned) → r ≡ apart_answer (num_value (signless q)) h.floats h.shown h.written → shown ≡ h.shown → sum ≡ h.sum → out ≡ h.out → Comes-to (apart_line q)
+  apart-comes : (q : Unsigned) → r ≡ apart_answer (num_value (signless q)) h.floats h.shown.places h.written → shown ≡ h.shown → out ≡ h.out → Comes-to (apart_line q)
   unfolding step apart_answer evaluated in_limit
-  apart-comes q er ej et eo = go (near (num_value (signless q))) refl (stand_apart (num_value (signless q)) (fixes st.entries)) refl (er ∙ ap (λ b. when (near (num_value (signless q))) (when b (Evaluated.Is 254 h.written) (Evaluated.Stops 9)) (Evaluated.Stops 7)) (stand-is (num_value (signless q)) h.floats h.shown (fixes st.entries) now.lets h.n h.line now.kept now.rising now.listed.few))
+  apart-comes q er ek eo = go (near (num_value (signless q))) refl (stand_apart (num_value (signless q)) (fixes st.entries)) refl (er ∙ ap (λ b. when (near (num_value (signless q))) (when b (Evaluated.Is 254 h.written) (Evaluated.Stops 9)) (Evaluated.Stops 7)) (stand-is (num_value (signless q)) h.floats h.shown.places (fixes st.entries) now.lets h.n h.line now.kept now.rising now.listed.few))
     where
       never : {k m : ℕ} {c : ℕ} → r ≡ Evaluated.Stops c → (C : Type 0) → r ≡ Evaluated.Is k m → C
       never e C i = let z : ◌≡◌ {A = ℕ} 0 1 = cc in absurd (omega arith)
@@ -133,14 +133,14 @@ module _ {s : List ℕ} {e : Ellipsoid} {rs : List Float} {d : List ℕ} {h : St
       stopping : (o : Out Value) (k : Value → Out State) (c : ℕ) → step h.line st (apart_line q) ≡ thenᵒ o k → r ≡ evaluated o 0 → r ≡ Evaluated.Stops c → Comes-to (apart_line q)
       stopping o k c es eq e = record { stays = λ n. (o, k, es, eq, eo); goes_on = λ kind count i. never e _ i }
 
-      behind : (count : ℕ) → r ≡ Evaluated.Is 254 h.written → (kind : ℕ) → r ≡ Evaluated.Is kind count → Behind h now.lets d st st shown sum count out
+      behind : (count : ℕ) → r ≡ Evaluated.Is 254 h.written → (kind : ℕ) → r ≡ Evaluated.Is kind count → Behind h now.lets d st st shown count out
       behind count e kind i =
           let same : count ≡ h.written = cc in
           record {
             surface = refl;
             known = refl;
-            kept = subst (λ js. FixesKept (fixes st.entries) now.lets js h.floats h.n) (sym ej) now.kept;
-            sums = ap metres et ∙ now.sums;
+            kept = subst (λ (k : Shown). FixesKept (fixes st.entries) now.lets k.places h.floats h.n) (sym ek) now.kept;
+            sums = ap (λ (k : Shown). k.sum) ek ∙ now.sums;
             counted = same ∙ now.count;
             bound = omega arith;
             text = eo ∙ now.text;
@@ -159,7 +159,7 @@ module _ {s : List ℕ} {e : Ellipsoid} {rs : List Float} {d : List ℕ} {h : St
 
   -- by its form: the line l stands there, its word at the place j among the names
   pub whole-comes : (y : WholeLine) (l : Line) → WholeIn s y l → (c : ℕ) → Names y c → (j : ℕ) → Search.Placed h.words h.newest c j → (x : Slot)
-      → LineDoes s y j (get_or h.slots j x).value h.floats h.shown h.sum h.out h.written r shown sum out → Comes-to l
+      → LineDoes s y j (get_or h.slots j x).value h.floats h.shown h.out h.written r shown out → Comes-to l
   unfolding Does
   whole-comes (WholeLine.Show name) l (w, ew, ec, el) c hc j pj x hr =
       let hj = subst (λ k. Search.Placed h.words h.newest k j) (hc.is name refl) pj in
@@ -172,5 +172,5 @@ module _ {s : List ℕ} {e : Ellipsoid} {rs : List Float} {d : List ℕ} {h : St
         line = sym line;
         lies = found-position h.slots rs h.words h.kinds h.newest h.floats h.n now.listed name.code j hj x v ev p (held-position v p ep);
       }) hr.is.is)
-  whole-comes WholeLine.Total l el c hc j pj x hr = subst Comes-to (sym el) (total-comes hr.is.0 hr.is.1 hr.is.2)
-  whole-comes (WholeLine.Apart x) l (q, ex, el) c hc j pj y hr = subst Comes-to (sym el) (apart-comes q (hr.is.0 ∙ ap (λ x. apart_answer x h.floats h.shown h.written) (sym ex)) hr.is.1 hr.is.2 hr.is.3)
+  whole-comes WholeLine.Total l el c hc j pj x hr = subst Comes-to (sym el) (total-comes hr.is.0 hr.is.1)
+  whole-comes (WholeLine.Apart x) l (q, ex, el) c hc j pj y hr = subst Comes-to (sym el) (apart-comes q (hr.is.0 ∙ ap (λ x. apart_answer x h.floats h.shown.places h.written) (sym ex)) hr.is.1 hr.is.2)

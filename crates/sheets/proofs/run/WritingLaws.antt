@@ -6,7 +6,7 @@ use native.Mathlib.Omega.{arith}
 use mathlib.Core.Path.{◌≡◌, refl, sym, ap, ◌∙◌, subst}
 use mathlib.Core.List.{List, [], ◌∷◌, ◌++◌, append_assoc}
 use lib.ListN.{length, get_or, set, length-set, length-append, length-drop, take, drop}
-use lib.Seq.{sets, sets-eq, take-append_seam, drop-append-add, drop-drop, drop-cons, length-take-le, take-length}
+use lib.Seq.{sets, sets-eq, take-append_seam, drop-append-add, drop-drop, take-suc, length-take-le}
 use lib.Ieee.{Float, binary64, to_bits}
 use Rattle.sheets.specs.Answers.{laid}
 use Rattle.sheets.specs.Output.{hex, field, fields_text}
@@ -45,9 +45,6 @@ laid_more a b d h =
     ∙ ap (λ x. a ++ b ++ x) (drop-append-add a (drop (length a) d) (length b) ∙ drop-drop (length b) (length a) d)
     ∙ ap (λ n. a ++ b ++ drop n d) (sym (length-append a b))
 
-pub laid-first : (b d : List ℕ) → length b ≤ length d → writes d 0 b ≡ laid b d
-laid-first b d h = laid_more [] b d (omega arith)
-
 -- ---- one text after another
 
 pub written_then : (a b : List ℕ) {d e f : List ℕ} {at m r : ℕ} → Written d at a e m → Written e m b f r → Written d at (a ++ b) f r
@@ -68,34 +65,14 @@ fields-then xs ys p q = rw (fields-append xs ys) (written_then (fields_text xs) 
 pub field-written : (x : Float) (b : ℕ) → b ≡ to_bits binary64 x → {d e f : List ℕ} {at m r : ℕ} → Written d at (32 ∷ []) e m → Written e m (hex 16 b []) f r → Written d at (fields_text (x ∷ [])) f r
 field-written x b h {d} {e} {f} {at} {m} {r} p q = subst (λ k. Written d at (32 ∷ hex 16 k []) f r) h (written_then (32 ∷ []) (hex 16 b []) p q)
 
--- ---- the name, from the first byte
+-- ---- a text, byte by byte
 
-part-cons : (s : List ℕ) (i n : ℕ) → i < n → n ≤ length s → part s i n ≡ get_or s i 0 ∷ part s (i + 1) n
-part-cons s i n h le = ap (take (n - i)) (drop-cons s i 0 (omega arith)) ∙ ap (λ k. take k (get_or s i 0 ∷ drop (suc i) s)) e ∙ ap (λ k. get_or s i 0 ∷ take (n - (i + 1)) (drop k s)) (sym (add-one i))
-  where
-    e : n - i ≡ suc (n - (i + 1))
-    e = omega arith
-
-pub name-turn : (o d s : List ℕ) (at i m n : ℕ) (a : List ℕ) → i < n → n ≤ length s
-    → writes o m (part s i n) ≡ writes d at a → writes (set o m (get_or s i 0)) (m + 1) (part s (i + 1) n) ≡ writes d at a
+pub none-written : (d : List ℕ) (at : ℕ) → Written d at [] d at
 unfolding writes
-name-turn o d s at i m n a h le inv = ap (writes o m) (sym (part-cons s i n h le)) ∙ inv
+none-written d at = record { is = refl; end = omega arith }
+
+pub text-turn : (w : List ℕ) (i : ℕ) → i < length w → {d e f : List ℕ} {at m r : ℕ} → Written d at (take i w) e m → Written e m (get_or w i 0 ∷ []) f r → Written d at (take (i + 1) w) f r
+text-turn w i h p q = rw (add-one, take-suc w i 0 h) (written_then (take i w) (get_or w i 0 ∷ []) p q)
 
 pub part_length : (s : List ℕ) (i n : ℕ) → n ≤ length s → length (part s i n) ≡ n - i
 part_length s i n le = length-take-le (n - i) (drop i s) (omega (arith, le, length-drop i s))
-
-pub name-written : (o d s : List ℕ) (at from i m n : ℕ) → n ≤ i → i ≤ n → m + (n - i) ≡ at + (n - from) → n ≤ length s
-    → writes o m (part s i n) ≡ writes d at (part s from n) → Written d at (part s from n) o m
-unfolding writes
-name-written o d s at from i m n le ge e k inv =
-    record {
-      is = ap (λ j. writes o m (take j (drop i s))) z ∙ inv;
-      end = omega (arith, e, part_length s from n k);
-    }
-  where
-    z : 0 ≡ n - i
-    z = omega arith
-
--- a text is the part from its beginning to its end
-pub all-written : (s : List ℕ) {d e : List ℕ} {at r : ℕ} → Written d at (part s 0 (length s)) e r → Written d at s e r
-all-written s {d} {e} {at} {r} p = let z : length s - 0 ≡ length s = omega arith in subst (λ t. Written d at t e r) (ap (λ n. take n s) z ∙ take-length s) p

@@ -3,7 +3,6 @@ pub mod Slots
 pub mod Floats
 pub mod Known
 pub mod Evaluating
-pub mod Digits
 pub mod Writing
 pub mod Keeping
 pub mod Apart

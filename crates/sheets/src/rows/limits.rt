@@ -11,7 +11,7 @@ use frames::{Ellipsoid, GeocentricPosition};
 pub(crate) fn is_within(m: f64, x: f64) -> bool
     ensures { result ≡ between (Ieee.neg m) m x }
 {
-    if -m <= x { x <= m } else { false }
+    -m <= x && x <= m
 }
 
 pub(crate) fn is_near(x: f64) -> bool
@@ -23,11 +23,7 @@ pub(crate) fn is_near(x: f64) -> bool
 pub(crate) fn are_near(x: f64, y: f64, z: f64) -> bool
     ensures { result ≡ all_near x y z }
 {
-    if is_near(x) {
-        if is_near(y) { is_near(z) } else { false }
-    } else {
-        false
-    }
+    is_near(x) && is_near(y) && is_near(z)
 }
 
 pub fn in_limit(v: Value) -> bool

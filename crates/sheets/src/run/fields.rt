@@ -2,7 +2,6 @@
 ghost use Rattle.std.specs.Prelude.{◌≡◌, [], ◌∷◌, ◌+◌, ◌*◌, ◌<◌, ◌≤◌, length, take};
 ghost use Rattle.sheets.specs.Output.{hex, fields_text};
 ghost use Rattle.sheets.specs.code.run.Writing.{Written};
-ghost use Rattle.sheets.specs.code.run.Digits.{bytes};
 
 use numbers::float::bits;
 
@@ -15,9 +14,21 @@ pub fn put_byte(b: u8, out: &mut [u8], at: usize) -> usize
     at + 1
 }
 
-// The eight last digits of n, the first of them in the lowest byte. The last four bytes of n are turned round, spread to every other byte, in two steps, and each is cut into the values of its two digits, which are then the bytes. 48 is added to each, and 39 more to each above 9: these bits of 127, since a product by 127 is a shift and a difference, and one by 39 is not.
-fn digits_of(n: u64) -> u64
-    ensures { bytes 8 result ≡ hex 8 n [] }
+// All bytes of a text. By `copy_from_slice` the library of the C functions would ask for memmove.
+pub fn put_text(text: &[u8], out: &mut [u8], at: usize) -> usize
+    requires { at + length text.now ≤ length out.old }
+    ensures { Written out.old at text.now out.new result }
+{
+    let mut n = at;
+    for b in text {
+        n = put_byte(*b, out, n);
+    }
+    n
+}
+
+// The eight last digits of n: the bytes of a number, the first digit in the lowest. The last four bytes of n are turned round, spread to every other byte, in two steps, and each is cut into the values of its two digits, which are then the bytes. 48 is added to each, and 39 more to each above 9: these bits of 127, since a product by 127 is a shift and a difference, and one by 39 is not.
+fn digits_of(n: u64) -> [u8; 8]
+    ensures { result ≡ hex 8 n [] }
 {
     let t = ((n % 256 * 256 + n / 0x100 % 256) * 256 + n / 0x1_0000 % 256) * 256
         + n / 0x100_0000 % 256;
@@ -25,24 +36,8 @@ fn digits_of(n: u64) -> u64
     let b = (a | a * 0x100) & 0xff_00ff_00ff_00ff;
     let c = (b / 16 & 0xf_000f_000f_000f) + (b & 0xf_000f_000f_000f) * 0x100;
     let over = (c + 0x606_0606_0606_0606) / 16 & 0x101_0101_0101_0101;
-    c + 0x3030_3030_3030_3030 + (over * 127 & 0x2727_2727_2727_2727)
-}
-
-// The eight last digits of n, stored.
-fn put_eight(n: u64, out: &mut [u8], at: usize) -> usize
-    requires { at + 8 ≤ length out.old }
-    ensures { Written out.old at (hex 8 n []) out.new result }
-{
-    let mut d = digits_of(n);
-    let mut i = at;
-    let mut left: usize = 8;
-    while 0 < left {
-        out[i] = (d % 256) as u8;
-        d = d / 256;
-        i += 1;
-        left -= 1;
-    }
-    i
+    let digits = c + 0x3030_3030_3030_3030 + (over * 127 & 0x2727_2727_2727_2727);
+    digits.to_le_bytes()
 }
 
 // The 16 digits of n.
@@ -50,8 +45,8 @@ fn put_hex(n: u64, out: &mut [u8], at: usize) -> usize
     requires { at + 16 ≤ length out.old }
     ensures { Written out.old at (hex 16 n []) out.new result }
 {
-    let m = put_eight(n / 0x1_0000_0000, out, at);
-    put_eight(n, out, m)
+    let m = put_text(&digits_of(n / 0x1_0000_0000), out, at);
+    put_text(&digits_of(n), out, m)
 }
 
 // One field.
@@ -69,12 +64,9 @@ pub fn put_fields(row: &[f64; 12], count: usize, out: &mut [u8], at: usize) -> u
     requires { (count ≤ 12) × (count ≤ length row.now) × (at + count * 17 ≤ length out.old) }
     ensures { Written out.old at (fields_text (take count row.now)) out.new result }
 {
-    let mut i: usize = 0;
     let mut n = at;
-    while i < count {
-        let x = row[i];
-        n = put_field(x, out, n);
-        i += 1;
+    for x in &row[..count] {
+        n = put_field(*x, out, n);
     }
     n
 }

@@ -182,9 +182,5 @@ pub fn copy_floats(floats: &mut [f64; 2940], from: usize, to: usize)
     requires { (from + 21 ≤ 2940) × (to + 21 ≤ 2940) }
     ensures { Copied floats.old from to floats.new }
 {
-    let mut n: usize = 0;
-    while n < 21 {
-        floats[to + n] = floats[from + n];
-        n += 1;
-    }
+    floats.copy_within(from..from + 21, to);
 }

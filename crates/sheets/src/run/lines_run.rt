@@ -12,6 +12,7 @@ use crate::rows::value::{Slot, empty_slot};
 use crate::run::eval::eval;
 use crate::run::floats::value_at;
 use crate::run::readings::put_readings;
+use crate::run::shown::Shown;
 use crate::run::whole::{named, whole_line};
 use frames::Ellipsoid;
 
@@ -73,7 +74,7 @@ fn stopped(r: Evaluated, line: usize, written: usize) -> RunAnswer
 
 // The lines from line 2, which stands at `from`. The number of the line at `at` is `line` + 1 before its turn and `line` in it, stepped at each LF.
 // The table of names stays here; slot 0 stays empty. `words`, `kinds` and `floats` have its words, kinds and values, each at its slot's place, for the evaluator; `newest` is that of newest.rt.
-// `shown` has 1 at the place of each name shown whose value is a g, and a place is never given to another name: so the position stays where it lies among the floats. `sum` is the sum of the lengths shown.
+// A place kept in `shown` is never given to another name: so the position stays where it lies among the floats.
 pub fn run_lines(s: &[u8], from: usize, e: Ellipsoid, readings: &[f64], out: &mut [u8]) -> RunAnswer
     requires { 2 ≡ line_number s.now from }
     ensures { Runs s.now from e readings.now out.old result out.new }
@@ -82,8 +83,7 @@ pub fn run_lines(s: &[u8], from: usize, e: Ellipsoid, readings: &[f64], out: &mu
     let mut words = [0u64; 96];
     let mut kinds = [0u8; 96];
     let mut newest = [0u8; 512];
-    let mut shown = [0u8; 96];
-    let mut sum = 0.0;
+    let mut shown = Shown::new();
     let mut floats = [0.0; 2940];
     put_readings(readings, &mut floats);
     let mut at = from;
@@ -105,7 +105,7 @@ pub fn run_lines(s: &[u8], from: usize, e: Ellipsoid, readings: &[f64], out: &mu
             }
             LineHead::Whole(w, next) => {
                 let j = word_place(&words, &newest, named(w));
-                match whole_line(s, w, j, t[j], &floats, &mut shown, &mut sum, out, written) {
+                match whole_line(s, w, j, t[j], &floats, &mut shown, out, written) {
                     Evaluated::Is(_, count) => written = count,
                     r => return stopped(r, line, written),
                 }

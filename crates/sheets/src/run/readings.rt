@@ -34,12 +34,6 @@ pub fn reading_index(code: u64) -> usize
 pub fn put_readings(readings: &[f64], floats: &mut [f64; 2940])
     ensures { WithReadings readings.now floats.old floats.new }
 {
-    let mut i: usize = 0;
-    while i < 16 {
-        if readings.len() <= i {
-            return;
-        }
-        floats[i] = readings[i];
-        i += 1;
-    }
+    let n = readings.len().min(16);
+    floats[..n].copy_from_slice(&readings[..n]);
 }

@@ -1,10 +1,10 @@
 // An output line in a lent buffer: name, kind, fields and LF.
-ghost use Rattle.std.specs.Prelude.{◌≡◌, ◌∷◌, ◌+◌, ◌-◌, ◌≤◌, length, replicate};
-ghost use Rattle.sheets.specs.code.run.Writing.{Written, part, zero64, padded, field_count, plain_letter, orientation_text, kind_text, value_text, fitting, room, line_if, total_if};
+ghost use Rattle.std.specs.Prelude.{◌≡◌, ◌∷◌, ◌+◌, ◌≤◌, length, replicate};
+ghost use Rattle.sheets.specs.code.run.Writing.{Written, zero64, padded, field_count, plain_letter, orientation_text, kind_text, value_text, fitting, room, line_if, total_if};
 
 use crate::Value;
 use crate::rows::value::kind_of;
-use crate::run::fields::{put_byte, put_fields};
+use crate::run::fields::{put_byte, put_fields, put_text};
 use numbers::Length;
 
 // Four fields, and 0 behind them up to twelve.
@@ -56,14 +56,6 @@ fn field_count(kind: u8) -> usize
         return 3;
     }
     12
-}
-
-// All bytes of a text.
-fn put_text(w: &[u8], out: &mut [u8], at: usize) -> usize
-    requires { at + length w.now ≤ length out.old }
-    ensures { Written out.old at w.now out.new result }
-{
-    put_part(w, 0, w.len(), out, at)
 }
 
 // The letter of a kind without an orientation: n, a, l, g, d.
@@ -120,21 +112,6 @@ fn put_value(v: Value, out: &mut [u8], at: usize) -> usize
     put_fields(&row, count, out, i)
 }
 
-// The bytes of a text from `from` to `end`.
-fn put_part(s: &[u8], from: usize, end: usize, out: &mut [u8], at: usize) -> usize
-    requires { (from ≤ end) × (end ≤ length s.now) × (at + (end - from) ≤ length out.old) }
-    ensures { Written out.old at (part s.now from end) out.new result }
-{
-    let mut i = from;
-    let mut n = at;
-    while i < end {
-        out[n] = s[i];
-        i += 1;
-        n += 1;
-    }
-    n
-}
-
 // Whether the bytes from `from` to `end` are at most 12 of a sheet of this length, and 223 bytes of the buffer are left: 12, a space, 209 and LF.
 fn has_room(length: usize, from: usize, end: usize, size: usize, at: usize) -> bool
     ensures { result ≡ fitting length from end size at }
@@ -165,7 +142,7 @@ pub fn output_line(s: &[u8], from: usize, end: usize, v: Value, out: &mut [u8], 
     if !ok {
         return at;
     }
-    let i = put_part(s, from, end, out, at);
+    let i = put_text(&s[from..end], out, at);
     let j = put_byte(32, out, i);
     let k = put_value(v, out, j);
     put_byte(10, out, k)

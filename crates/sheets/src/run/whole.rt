@@ -1,10 +1,6 @@
 // The lines that are read whole: what each writes, and what is kept of it.
-// The sum of the lengths shown is lent by its metres, the one number that a line adds to.
 ghost use Rattle.std.specs.Prelude.{◌≡◌, ◌≤◌};
 ghost use Rattle.std.proofs.Math.Option.{some};
-ghost use Rattle.sheets.specs.Letters.{𝐥, 𝐠, held};
-ghost use Rattle.sheets.specs.Entries.{plus};
-ghost use Rattle.sheets.specs.code.run.Keeping.{keep};
 ghost use Rattle.sheets.specs.code.run.Known.{found_at};
 ghost use Rattle.sheets.specs.code.run.Apart.{apart_answer};
 ghost use Rattle.sheets.specs.code.run.Wholes.{Names, TestedLine, ShownAs, TotalLine, LineDoes};
@@ -14,6 +10,7 @@ use crate::rows::limits::{in_limit, is_near};
 use crate::rows::value::{Slot, kind_of};
 use crate::run::apart::stand_apart;
 use crate::run::readings::reading_index;
+use crate::run::shown::Shown;
 use crate::run::text::{output_line, total_line};
 use crate::{Evaluated, Value};
 use numbers::Length;
@@ -47,47 +44,24 @@ fn tested_line(
     Evaluated::Stops(7)
 }
 
-// The place of a value that is shown is kept, where it is a g.
-fn keep(shown: &mut [u8; 96], place: usize, v: Value)
-    requires { place ≤ 95 }
-    ensures { shown.new ≡ keep shown.old place (held 𝐠 v) }
-{
-    let Value::Geocentric(_) = v else {
-        return;
-    };
-    shown[place] = 1;
-}
-
-// A sum with a value behind it: a length is added, and no other value counts.
-fn plus(sum: Length, v: Value) -> Length
-    ensures { result ≡ plus sum (held 𝐥 v) }
-{
-    let Value::Metres(x) = v else {
-        return sum;
-    };
-    sum + x
-}
-
 // A show of a value, which stands at a place among the names: the place of a g is kept, and a length goes into the sum.
 fn show_value(
     s: &[u8],
     name: NameAt,
     v: Value,
     place: usize,
-    shown: &mut [u8; 96],
-    sum: &mut f64,
+    shown: &mut Shown,
     out: &mut [u8],
     written: usize,
 ) -> Evaluated
     requires { place ≤ 95 }
-    ensures { ShownAs s.now name (some v) place shown.old sum.old out.old written result shown.new sum.new out.new }
+    ensures { ShownAs s.now name (some v) place shown.old out.old written result shown.new out.new }
 {
     let r = tested_line(s, name.from, name.end, v, out, written);
     let Evaluated::Is(kind, n) = r else {
         return r;
     };
-    keep(shown, place, v);
-    *sum = plus(Length::from_metres(*sum), v).as_metres();
+    shown.keep(place, v);
     Evaluated::Is(kind, n)
 }
 
@@ -98,13 +72,12 @@ fn show(
     j: usize,
     x: Slot,
     floats: &[f64; 2940],
-    shown: &mut [u8; 96],
-    sum: &mut f64,
+    shown: &mut Shown,
     out: &mut [u8],
     written: usize,
 ) -> Evaluated
     requires { j ≤ 95 }
-    ensures { ShownAs s.now name (found_at x.value floats.now name.code j) j shown.old sum.old out.old written result shown.new sum.new out.new }
+    ensures { ShownAs s.now name (found_at x.value floats.now name.code j) j shown.old out.old written result shown.new out.new }
 {
     let mut v = x.value;
     if j == 0 {
@@ -114,7 +87,7 @@ fn show(
         }
         v = Value::Number(floats[i]);
     }
-    show_value(s, name, v, j, shown, sum, out, written)
+    show_value(s, name, v, j, shown, out, written)
 }
 
 // A total: the sum of the lengths shown, tested as an l.
@@ -129,7 +102,7 @@ fn total(sum: Length, out: &mut [u8], written: usize) -> Evaluated
 }
 
 // An apart: its number is tested as an n, and then what was shown.
-fn apart(least: f64, floats: &[f64; 2940], shown: &[u8; 96], written: usize) -> Evaluated
+fn apart(least: f64, floats: &[f64; 2940], shown: &[bool; 96], written: usize) -> Evaluated
     ensures { result ≡ apart_answer least floats.now shown.now written }
 {
     if is_near(least) {
@@ -148,17 +121,16 @@ pub fn whole_line(
     j: usize,
     x: Slot,
     floats: &[f64; 2940],
-    shown: &mut [u8; 96],
-    sum: &mut f64,
+    shown: &mut Shown,
     out: &mut [u8],
     written: usize,
 ) -> Evaluated
     requires { j ≤ 95 }
-    ensures { LineDoes s.now line j x.value floats.now shown.old sum.old out.old written result shown.new sum.new out.new }
+    ensures { LineDoes s.now line j x.value floats.now shown.old out.old written result shown.new out.new }
 {
     match line {
-        WholeLine::Show(name) => show(s, name, j, x, floats, shown, sum, out, written),
-        WholeLine::Total => total(Length::from_metres(*sum), out, written),
-        WholeLine::Apart(least) => apart(least, floats, shown, written),
+        WholeLine::Show(name) => show(s, name, j, x, floats, shown, out, written),
+        WholeLine::Total => total(shown.sum, out, written),
+        WholeLine::Apart(least) => apart(least, floats, &shown.places, written),
     }
 }

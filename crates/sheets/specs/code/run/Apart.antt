@@ -1,6 +1,6 @@
 -- How the run tells whether the names shown stand apart: by the places kept, each with those below it.
 -- No part of what must be believed: they only tie the code to the machine.
-use Rattle.std.specs.Prelude.{ℕ, zero, suc, ◌*◌, Bool, true, ◌&&◌, List, eqb, get_or, Float}
+use Rattle.std.specs.Prelude.{ℕ, zero, suc, ◌*◌, Bool, true, false, ◌&&◌, List, get_or, Float}
 use Rattle.std.specs.Float.Ieee as Ieee
 use Rattle.numbers.specs.Vec.{norm, vec_sub}
 use Rattle.numbers.specs.declared.Vec3.{Vec3}
@@ -15,18 +15,18 @@ abbrev pub metres_at : List Float → ℕ → Vec3
 metres_at f j = geocentric_as_metres (position_at f (21 * j))
 
 -- the name at the place j, if it was shown, is at least so far from v; so is each one below it
-unfoldable pub clear_at : Float → Vec3 → List Float → List ℕ → ℕ → Bool
-clear_at least v f js j = when (eqb (get_or js j 0) 1) (Ieee.le least (norm (vec_sub v (metres_at f j)))) true
+unfoldable pub clear_at : Float → Vec3 → List Float → List Bool → ℕ → Bool
+clear_at least v f js j = when (get_or js j false) (Ieee.le least (norm (vec_sub v (metres_at f j)))) true
 
-unfoldable pub clear_below : Float → Vec3 → List Float → List ℕ → ℕ → Bool
+unfoldable pub clear_below : Float → Vec3 → List Float → List Bool → ℕ → Bool
 clear_below least v f js zero = true
 clear_below least v f js (suc j) = clear_at least v f js j && clear_below least v f js j
 
 -- and of every two below the place j
-unfoldable pub apart_below : Float → List Float → List ℕ → ℕ → Bool
+unfoldable pub apart_below : Float → List Float → List Bool → ℕ → Bool
 apart_below least f js zero = true
-apart_below least f js (suc j) = when (eqb (get_or js j 0) 1) (clear_below least (metres_at f j) f js j) true && apart_below least f js j
+apart_below least f js (suc j) = when (get_or js j false) (clear_below least (metres_at f j) f js j) true && apart_below least f js j
 
 -- an apart's answer: refusal 7, then refusal 9
-unfoldable pub apart_answer : Float → List Float → List ℕ → ℕ → Evaluated
+unfoldable pub apart_answer : Float → List Float → List Bool → ℕ → Evaluated
 apart_answer least f js written = when (near least) (when (apart_below least f js 96) (Evaluated.Is 254 written) (Evaluated.Stops 9)) (Evaluated.Stops 7)

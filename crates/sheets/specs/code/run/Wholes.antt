@@ -2,13 +2,13 @@
 -- No part of what must be believed: they only tie the code to the machine.
 use Rattle.std.specs.Prelude.{ℕ, ◌≡◌, Bool, true, false, List, Float}
 use Rattle.std.proofs.Math.Option.{Option, none, some}
-use Rattle.numbers.specs.Lengths.{metres}
 use Rattle.numbers.specs.declared.Length.{Length}
 use Rattle.sheets.specs.declared.Value.{Value}
 use Rattle.sheets.specs.declared.Value.TheVariants.{Metres}
 use Rattle.sheets.specs.declared.reader.lines.NameAt.{NameAt}
 use Rattle.sheets.specs.declared.reader.lines.WholeLine.{WholeLine}
 use Rattle.sheets.specs.declared.Evaluated.{Evaluated}
+use Rattle.sheets.specs.declared.run.shown.Shown.{Shown}
 use Rattle.sheets.specs.Text.{ascii}
 use Rattle.sheets.specs.Kinds.{kind_of, kind_code}
 use Rattle.sheets.specs.Letters.{𝐥, 𝐠, held}
@@ -31,28 +31,28 @@ TestedIf false s from end v out written r out' = (r ≡ Evaluated.Stops 7) × (o
 pub record TestedLine (s : List ℕ) (from end : ℕ) (v : Value) (out : List ℕ) (written : ℕ) (r : Evaluated) (out' : List ℕ) : Type 0 where
   pub is : TestedIf (in_limit v) s from end v out written r out'
 
--- the place j of a g that is shown is kept, and a length goes into the sum, which has t metres
-unfoldable pub KeptIf : Bool → Value → ℕ → List ℕ → Float → List ℕ → Float → Type 0
-KeptIf true v j js t js' t' = (js' ≡ keep js j (held 𝐠 v)) × (metres t' ≡ plus (metres t) (held 𝐥 v))
-KeptIf false v j js t js' t' = (js' ≡ js) × (t' ≡ t)
+-- the place j of a g that is shown is kept, and a length goes into the sum
+unfoldable pub KeptIf : Bool → Value → ℕ → Shown → Shown → Type 0
+KeptIf true v j k k' = (k'.places ≡ keep k.places j (held 𝐠 v)) × (k'.sum ≡ plus k.sum (held 𝐥 v))
+KeptIf false v j k k' = k' ≡ k
 
 -- a show of what was found at the place j
-unfoldable pub Shown : List ℕ → NameAt → Option Value → ℕ → List ℕ → Float → List ℕ → ℕ → Evaluated → List ℕ → Float → List ℕ → Type 0
-Shown s name (some v) j js t out written r js' t' out' = TestedLine s name.from name.end v out written r out' × KeptIf (in_limit v) v j js t js' t'
-Shown s name none j js t out written r js' t' out' = (r ≡ Evaluated.Sticks) × (js' ≡ js) × (t' ≡ t) × (out' ≡ out)
+unfoldable pub ShownIf : List ℕ → NameAt → Option Value → ℕ → Shown → List ℕ → ℕ → Evaluated → Shown → List ℕ → Type 0
+ShownIf s name (some v) j k out written r k' out' = TestedLine s name.from name.end v out written r out' × KeptIf (in_limit v) v j k k'
+ShownIf s name none j k out written r k' out' = (r ≡ Evaluated.Sticks) × (k' ≡ k) × (out' ≡ out)
 
-pub record ShownAs (s : List ℕ) (name : NameAt) (x : Option Value) (j : ℕ) (js : List ℕ) (t : Float) (out : List ℕ) (written : ℕ) (r : Evaluated) (js' : List ℕ) (t' : Float) (out' : List ℕ) : Type 0 where
-  pub is : Shown s name x j js t out written r js' t' out'
+pub record ShownAs (s : List ℕ) (name : NameAt) (x : Option Value) (j : ℕ) (k : Shown) (out : List ℕ) (written : ℕ) (r : Evaluated) (k' : Shown) (out' : List ℕ) : Type 0 where
+  pub is : ShownIf s name x j k out written r k' out'
 
 -- a total of this sum
 abbrev pub TotalLine : Length → List ℕ → ℕ → Evaluated → List ℕ → Type 0
 TotalLine t out written r out' = TestedLine (ascii "total") 0 5 (Metres t) out written r out'
 
 -- a line whose word stands at the place j, where the slot holds v
-unfoldable pub Does : List ℕ → WholeLine → ℕ → Value → List Float → List ℕ → Float → List ℕ → ℕ → Evaluated → List ℕ → Float → List ℕ → Type 0
-Does s (WholeLine.Show name) j v f js t out written r js' t' out' = ShownAs s name (found_at v f name.code j) j js t out written r js' t' out'
-Does s WholeLine.Total j v f js t out written r js' t' out' = TotalLine (metres t) out written r out' × (js' ≡ js) × (t' ≡ t)
-Does s (WholeLine.Apart x) j v f js t out written r js' t' out' = (r ≡ apart_answer x f js written) × (js' ≡ js) × (t' ≡ t) × (out' ≡ out)
+unfoldable pub Does : List ℕ → WholeLine → ℕ → Value → List Float → Shown → List ℕ → ℕ → Evaluated → Shown → List ℕ → Type 0
+Does s (WholeLine.Show name) j v f k out written r k' out' = ShownAs s name (found_at v f name.code j) j k out written r k' out'
+Does s WholeLine.Total j v f k out written r k' out' = TotalLine k.sum out written r out' × (k' ≡ k)
+Does s (WholeLine.Apart x) j v f k out written r k' out' = (r ≡ apart_answer x f k.places written) × (k' ≡ k) × (out' ≡ out)
 
-pub record LineDoes (s : List ℕ) (line : WholeLine) (j : ℕ) (v : Value) (f : List Float) (js : List ℕ) (t : Float) (out : List ℕ) (written : ℕ) (r : Evaluated) (js' : List ℕ) (t' : Float) (out' : List ℕ) : Type 0 where
-  pub is : Does s line j v f js t out written r js' t' out'
+pub record LineDoes (s : List ℕ) (line : WholeLine) (j : ℕ) (v : Value) (f : List Float) (k : Shown) (out : List ℕ) (written : ℕ) (r : Evaluated) (k' : Shown) (out' : List ℕ) : Type 0 where
+  pub is : Does s line j v f k out written r k' out'

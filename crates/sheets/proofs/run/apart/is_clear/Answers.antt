@@ -12,10 +12,10 @@ pub position_at-requires : goal.position_at-requires
 position_at-requires c = omega arith
 
 pub returns-then-least-squared_norm : goal.returns-then-least-squared_norm
-returns-then-least-squared_norm c = clear-squared _ _ _ _ _ c.if-shown-place-eq1.true (subst T (sym c.well_formed.0.1) tt) _ (c.squared_norm.ensures ∙ ap squared_norm (c.sub-between.ensures ∙ ap (vec_sub _) (c.as_metres-w.ensures ∙ ap geocentric_as_metres c.position_at.ensures))) c.if-least-squared_norm.true
+returns-then-least-squared_norm c = clear-squared _ _ _ _ _ c.if-shown-place.true (subst T (sym c.well_formed.0.1) tt) _ (c.squared_norm.ensures ∙ ap squared_norm (c.sub-between.ensures ∙ ap (vec_sub _) (c.as_metres-w.ensures ∙ ap geocentric_as_metres c.position_at.ensures))) c.if-least-squared_norm.true
 
-pub returns-then-shown-place-eq1 : goal.returns-then-shown-place-eq1
-returns-then-shown-place-eq1 c = ap (Ieee.le _) (c.norm.ensures ∙ ap norm (c.sub-between.ensures ∙ ap (vec_sub _) (c.as_metres-w.ensures ∙ ap geocentric_as_metres c.position_at.ensures))) ∙ clear-shown _ _ _ _ _ c.if-shown-place-eq1.true
+pub returns-then-shown-place : goal.returns-then-shown-place
+returns-then-shown-place c = ap (Ieee.le _) (c.norm.ensures ∙ ap norm (c.sub-between.ensures ∙ ap (vec_sub _) (c.as_metres-w.ensures ∙ ap geocentric_as_metres c.position_at.ensures))) ∙ clear-shown _ _ _ _ _ c.if-shown-place.true
 
 pub returns : goal.returns
-returns c = clear-unshown _ _ _ _ _ c.if-shown-place-eq1.false
+returns c = clear-unshown _ _ _ _ _ c.if-shown-place.false

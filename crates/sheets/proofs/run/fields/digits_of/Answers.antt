@@ -1,6 +1,7 @@
 -- `sheets::run::fields::digits_of` meets its contract. Assumes nothing.
 use native.Mathlib.Omega.{arith}
 use Prim.Native.Nat.{◌+◌, ◌*◌, ◌/◌}
+use mathlib.Core.Path.{◌∙◌}
 use lib.Bits.{bit_and, bit_or, and_le_r}
 use Rattle.sheets.proofs.run.SpreadLaws.{turn, spread_a, spread_b, half_c, half_c-most}
 use Rattle.sheets.proofs.run.DigitLaws.{eight}
@@ -18,14 +19,14 @@ overflow_add-c c = omega (arith, half_c-most (spread_b (spread_a (turn c.args.n)
 pub overflow_add-over : goal.overflow_add-over
 overflow_add-over c = omega (arith, half_c-most (spread_b (spread_a (turn c.args.n))))
 
-pub overflow_add-result : goal.overflow_add-result
-overflow_add-result c = omega (arith, half_c-most (spread_b (spread_a (turn c.args.n))))
+pub overflow_add-digits : goal.overflow_add-digits
+overflow_add-digits c = omega (arith, half_c-most (spread_b (spread_a (turn c.args.n))))
 
-pub overflow_mul-result : goal.overflow_mul-result
-overflow_mul-result c = omega (arith, and_le_r ((half_c (spread_b (spread_a (turn c.args.n))) + 0x606_0606_0606_0606) / 16) 0x101_0101_0101_0101)
+pub overflow_mul-digits : goal.overflow_mul-digits
+overflow_mul-digits c = omega (arith, and_le_r ((half_c (spread_b (spread_a (turn c.args.n))) + 0x606_0606_0606_0606) / 16) 0x101_0101_0101_0101)
 
-pub overflow_add-result-2 : goal.overflow_add-result-2
-overflow_add-result-2 c = omega (arith, half_c-most (spread_b (spread_a (turn c.args.n))), and_le_r (bit_and ((half_c (spread_b (spread_a (turn c.args.n))) + 0x606_0606_0606_0606) / 16) 0x101_0101_0101_0101 * 127) 0x2727_2727_2727_2727)
+pub overflow_add-digits-2 : goal.overflow_add-digits-2
+overflow_add-digits-2 c = omega (arith, half_c-most (spread_b (spread_a (turn c.args.n))), and_le_r (bit_and ((half_c (spread_b (spread_a (turn c.args.n))) + 0x606_0606_0606_0606) / 16) 0x101_0101_0101_0101 * 127) 0x2727_2727_2727_2727)
 
 pub returns : goal.returns
-returns c = eight c.args.n
+returns c = c.to_le_bytes.ensures ∙ eight c.args.n

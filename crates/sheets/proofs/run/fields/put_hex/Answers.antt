@@ -4,4 +4,4 @@ use Rattle.sheets.proofs.run.fields.put_hex.Goals as goal
 
 pub returns : goal.returns
 returns c =
-    sixteen c.args.n c.put_eight-m.ensures c.put_eight.ensures
+    sixteen c.args.n c.digits_of.ensures c.digits_of-2.ensures c.put_text-m.ensures c.put_text.ensures

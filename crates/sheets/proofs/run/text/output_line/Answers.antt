@@ -8,8 +8,17 @@ use Rattle.sheets.proofs.run.text.output_line.Goals as goal
 pub returns-then-not-ok : goal.returns-then-not-ok
 returns-then-not-ok c = line-none _ _ _ _ _ _ c.has_room-ok.ensures (ap not c.if-not-ok.true)
 
-pub put_part-i-requires : goal.put_part-i-requires
-put_part-i-requires c = let h = (room-told _ c.args.s.now _ _ c.args.out.now _ c.has_room-ok.ensures (ap not c.if-not-ok.false)) in (h.0, h.1, h.2)
+pub slice_bounds-put_text-count : goal.slice_bounds-put_text-count
+slice_bounds-put_text-count c = (room-told _ c.args.s.now _ _ c.args.out.now _ c.has_room-ok.ensures (ap not c.if-not-ok.false)).0
+
+pub slice_bounds-put_text-start : goal.slice_bounds-put_text-start
+slice_bounds-put_text-start c = omega (arith, (room-told _ c.args.s.now _ _ c.args.out.now _ c.has_room-ok.ensures (ap not c.if-not-ok.false)).0, (room-told _ c.args.s.now _ _ c.args.out.now _ c.has_room-ok.ensures (ap not c.if-not-ok.false)).1)
+
+pub slice_bounds-put_text-end : goal.slice_bounds-put_text-end
+slice_bounds-put_text-end c = omega (arith, (room-told _ c.args.s.now _ _ c.args.out.now _ c.has_room-ok.ensures (ap not c.if-not-ok.false)).0, (room-told _ c.args.s.now _ _ c.args.out.now _ c.has_room-ok.ensures (ap not c.if-not-ok.false)).1)
+
+pub put_text-i-requires : goal.put_text-i-requires
+put_text-i-requires c = omega (arith, (room-told _ c.args.s.now _ _ c.args.out.now _ c.has_room-ok.ensures (ap not c.if-not-ok.false)).3)
 
 pub put_byte-j-requires : goal.put_byte-j-requires
 put_byte-j-requires c = omega (arith, (room-told _ c.args.s.now _ _ c.args.out.now _ c.has_room-ok.ensures (ap not c.if-not-ok.false)).3)
@@ -22,4 +31,4 @@ put_byte-requires c = omega (arith, (room-told _ c.args.s.now _ _ c.args.out.now
 
 pub returns : goal.returns
 returns c =
-    line-whole _ _ _ _ c.has_room-ok.result _ c.has_room-ok.ensures (ap not c.if-not-ok.false) c.put_part-i.ensures c.put_byte-j.ensures c.put_value-k.ensures c.put_byte.ensures
+    line-whole _ _ _ _ c.has_room-ok.result _ c.has_room-ok.ensures (ap not c.if-not-ok.false) c.put_text-i.ensures c.put_byte-j.ensures c.put_value-k.ensures c.put_byte.ensures

@@ -4,7 +4,7 @@ use borrow.Enum.Refused.{opened}
 use Rattle.sheets.proofs.run.whole.show_value.Goals as goal
 
 pub returns-in_default : goal.returns-in_default
-returns-in_default c = show-out _ _ _ _ _ _ _ _ _ _ c.tested_line-r.ensures (opened c.in_default.in_default-own.keys2)
+returns-in_default c = show-out _ _ _ _ _ _ _ _ _ c.tested_line-r.ensures (opened c.in_default.in_default-own.keys2)
 
 pub returns : goal.returns
-returns c = show-in _ _ _ _ _ _ _ _ _ _ c.tested_line-r.ensures _ _ c.in-Is.is _ c.keep.ensures _ c.from_metres.ensures _ c.plus.ensures _ c.as_metres.ensures
+returns c = show-in _ _ _ _ _ _ _ _ _ c.tested_line-r.ensures _ _ c.in-Is.is _ c.keep.ensures.places c.keep.ensures.sum
