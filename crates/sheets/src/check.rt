@@ -2,7 +2,7 @@
 pub(crate) mod admit;
 pub(crate) mod first_line;
 pub(crate) mod kind_walk;
-pub(crate) mod newest;
+pub(crate) mod names;
 
 ghost use Rattle.std.specs.Prelude.{◌≡◌, ◌&&◌, ◌≤◌, leb, length, take};
 ghost use Rattle.sheets.specs.Answers.{laid, CheckOwes};

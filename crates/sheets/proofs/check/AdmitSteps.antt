@@ -1,10 +1,10 @@
 -- The check's walk over the lines, a turn at a time, and the whole sheet: a law for each way out of `walk_lines`, `unless_bad` and `admit`. Assumes nothing.
-use Prim.Native.Nat.{ℕ, suc, ◌+◌, ◌-◌, ◌%◌, ◌<◌, ◌≤◌}
+use Prim.Native.Nat.{ℕ, suc, ◌+◌, ◌-◌, ◌<◌, ◌≤◌}
 use native.Mathlib.Omega.{arith}
 use mathlib.Core.Path.{◌≡◌, refl, sym, ap, ◌∙◌, subst}
 use mathlib.Core.Bool.{Bool, true, false}
 use mathlib.Core.List.{List, [], ◌∷◌, ◌++◌}
-use lib.ListN.{length, take, set, replicate}
+use lib.ListN.{length, take, set}
 use lib.Seq.{take-suc-set, length-take-le}
 use Rattle.frames.specs.declared.Ellipsoid.{Ellipsoid}
 use Rattle.sheets.specs.Text.{Word}
@@ -28,6 +28,8 @@ use Rattle.sheets.proofs.reader.Spans.{holds_at}
 use Rattle.sheets.proofs.reader.LineNumbers.{number-next}
 use Rattle.sheets.proofs.reader.LineLaws.{LineStands, line-sound}
 use Rattle.sheets.proofs.reader.Walks.{lines_end, lines-over, lines_step_lem, Step, walk-line}
+use Rattle.sheets.specs.declared.check.names.Names.{Names}
+use Rattle.sheets.specs.code.check.Newest.{no_names, with_name}
 use Rattle.sheets.specs.code.check.Walking.{kind_from, Stands, line_word, line_said, LineHas, Walks, LinesWalk, unless_bad, Admits}
 use Rattle.sheets.specs.declared.check.admit.LineKind.{LineKind}
 use Rattle.sheets.specs.declared.check.admit.Outcome.{Outcome}
@@ -70,25 +72,25 @@ twice (bad_line j) g h = refl
 
 -- ---- the walk, where so many lines after line 1 are passed and the next one stands at a place: its number is one more than the LFs before it, and those before it were read, and make the state
 
-pub record Midway (s : List ℕ) (start at passed : ℕ) (words codes newest : List ℕ) : Type 0 where
+pub record Midway (s : List ℕ) (start at passed : ℕ) (names : Names) : Type 0 where
   pub has_number : passed + 2 ≡ line_number s at
   pub before : List Line → List Line
   pub phase : ℕ
   pub state : Stateᶜ
   pub whole : read_lines 95 2 0 s start ≡ (read_lines (95 - passed) (passed + 2) phase s at thenᶠ (λ ls. formed (before ls)))
   pub walked : (ls : List Line) → stepsᶜ (numbered 2 (before ls)) startᶜ ≡ stepsᶜ (numbered (passed + 2) ls) state
-  pub stands : Stands words codes newest passed state.scope.known
-  pub laid : take (passed + 1) codes ≡ 255 ∷ state.codes
+  pub stands : Stands names passed state.scope.known
+  pub laid : take (passed + 1) names.kinds ≡ 255 ∷ state.codes
 
-pub midway_start : (s t : List ℕ) (at : ℕ) → s ≡ t → 2 ≡ line_number t at → Midway s at at 0 (replicate 96 0) (replicate 96 255) (replicate 512 0)
+pub midway_start : (s t : List ℕ) (at : ℕ) → s ≡ t → 2 ≡ line_number t at → (names : Names) → names ≡ no_names → Midway s at at 0 names
 unfolding kind_from
-midway_start s t at e two = record { has_number = two ∙ ap (λ x. line_number x at) (sym e); before = λ ls. ls; phase = 0; state = startᶜ; whole = alone (read_lines 95 2 0 s at); walked = λ ls. refl; stands = record { few = omega arith; from = newest-none _; is = reading-is }; laid = refl }
+midway_start s t at e two names en = rw en record { has_number = two ∙ ap (λ x. line_number x at) (sym e); before = λ ls. ls; phase = 0; state = startᶜ; whole = alone (read_lines 95 2 0 s at); walked = λ ls. refl; stands = record { from = newest-none; is = reading-is }; laid = refl }
 
 -- of bytes that are the same
 pub walk_same : (s t : List ℕ) → s ≡ t → (start : ℕ) (e : Ellipsoid) (a : Admission) → LinesWalk (read_lines 95 2 0 s start) e start a → LinesWalk (read_lines 95 2 0 t start) e start a
 walk_same s t h start e a w = subst (λ l. LinesWalk (read_lines 95 2 0 l start) e start a) h w
 
-module _ (s : List ℕ) (start at passed : ℕ) (words codes newest : List ℕ) (m : Midway s start at passed words codes newest) where
+module _ (s : List ℕ) (start at passed : ℕ) (names : Names) (m : Midway s start at passed names) where
   -- the lines from this place on
   abbrev onward : Form (List Line)
   onward = read_lines (95 - passed) (passed + 2) m.phase s at
@@ -108,17 +110,18 @@ module _ (s : List ℕ) (start at passed : ℕ) (words codes newest : List ℕ) 
   unfolding ◌thenᶠ◌ LinesWalk
   walk-formed ls h e a w = subst (λ f. LinesWalk f e start a) (sym (came (formed ls) h)) (subst (λ o. Walks o e start a) (sym (m.walked ls)) w)
 
-  pub walk-done : passed ≤ 95 → length codes ≡ 96 → length s ≤ at → (e : Ellipsoid) → Answers e (record { outcome = Outcome.Passes (passed + 1) e start; codes = codes })
+  pub walk-done : length s ≤ at → (e : Ellipsoid) → Answers e (record { outcome = Outcome.Passes (passed + 1) e start; codes = names.kinds })
   unfolding Walks stepsᶜ
-  walk-done le lc h e =
-      let n : length (255 ∷ m.state.codes) ≡ passed + 1 = ap length (sym m.laid) ∙ length-take-le (passed + 1) codes (omega arith) in
-      walk-formed [] (lines_end s at (passed + 2) m.phase (95 - passed) h) e _ (ap (λ k. Outcome.Passes k e start) (sym n), omega arith, ap (λ k. take k codes) n ∙ m.laid)
+  walk-done h e =
+      let few = m.stands.from.few in
+      let n : length (255 ∷ m.state.codes) ≡ passed + 1 = ap length (sym m.laid) ∙ length-take-le (passed + 1) names.kinds (omega (arith, few, m.stands.from.sizes.1)) in
+      walk-formed [] (lines_end s at (passed + 2) m.phase (95 - passed) h) e _ (ap (λ k. Outcome.Passes k e start) (sym n), omega (arith, few), ap (λ k. take k names.kinds) n ∙ m.laid)
 
   module _ (h : at < length s) where
-    pub walk-over : 95 ≤ passed → passed ≤ 95 → (e : Ellipsoid) (a : Admission) → a.outcome ≡ Outcome.Refuses 3 97 → Answers e a
-    walk-over l le e a ea =
-        let i : passed + 2 ≡ 97 = omega arith in
-        walk-bad (passed + 2) (lines-over s at (passed + 2) m.phase (95 - passed) (omega arith) h) e a (ea ∙ ap (λ j. Outcome.Refuses 3 j) (sym i))
+    pub walk-over : 95 ≤ passed → (e : Ellipsoid) (a : Admission) → a.outcome ≡ Outcome.Refuses 3 97 → Answers e a
+    walk-over l e a ea =
+        let i : passed + 2 ≡ 97 = omega (arith, m.stands.from.few) in
+        walk-bad (passed + 2) (lines-over s at (passed + 2) m.phase (95 - passed) (omega (arith, m.stands.from.few)) h) e a (ea ∙ ap (λ j. Outcome.Refuses 3 j) (sym i))
 
     -- r is what the line came to
     module _ (r : LineKind) (hr : LineHas (read_line s at) (passed + 2) m.state.scope r) (le : passed < 95) where
@@ -162,13 +165,13 @@ module _ (s : List ℕ) (start at passed : ℕ) (words codes newest : List ℕ) 
                   let j : number ≡ refusal_number (fault f) = cc in
                   subst (λ q. Walks q e start a) (sym (steps-bad now.line now.rest (passed + 2) m.state f eq)) (ea ∙ ap (λ k. Outcome.Refuses k (passed + 2)) j)
 
-      module _ (lw : length words ≡ 96) (lc : length codes ≡ 96) (code kind next : ℕ) (er : r ≡ LineKind.Is code kind next) where
+      module _ (code kind next : ℕ) (er : r ≡ LineKind.Is code kind next) where
         stands_after : (l : Line) → IsLine l → (p : ℕ × Scope Kind) → LineFits (passed + 2) m.state.scope.known l p.1.known p.0
-            → Stands (set words (passed + 1) (code_of (line_word l))) (set codes (passed + 1) p.0) (set newest (code_of (line_word l) % 512) (passed + 1)) (passed + 1) p.1.known
-        stands_after (let_line w x) hl p (k, has, free, new, e, en) = rw (← e, ← en) (stands-given words codes newest passed m.state.scope.known m.stands lw lc le w hl.0.1.0 k (passed + 2))
-        stands_after (show_line w) hl p (k, has, e, en) = rw (← e, ← en) (stands-shown words codes newest passed m.state.scope.known m.stands lw lc le w hl.0.1.0 k has)
-        stands_after total_line hl p (e, en) = rw (← e) (stands-blank words codes newest passed m.state.scope.known m.stands lw le p.0)
-        stands_after (apart_line q) hl p (e, en) = rw (← e) (stands-blank words codes newest passed m.state.scope.known m.stands lw le p.0)
+            → Stands (with_name names (code_of (line_word l)) p.0 (passed + 1)) (passed + 1) p.1.known
+        stands_after (let_line w x) hl p (k, has, free, new, e, en) = rw (← e, ← en) (stands-given names passed m.state.scope.known m.stands le w hl.0.1.0 k (passed + 2))
+        stands_after (show_line w) hl p (k, has, e, en) = rw (← e, ← en) (stands-shown names passed m.state.scope.known m.stands le w hl.0.1.0 k has)
+        stands_after total_line hl p (e, en) = rw (← e) (stands-blank names passed m.state.scope.known m.stands le p.0)
+        stands_after (apart_line q) hl p (e, en) = rw (← e) (stands-blank names passed m.state.scope.known m.stands le p.0)
 
         whole-after : (l : Line) → read_line s at ≡ got l next
             → read_lines 95 2 0 s start ≡ (read_lines (95 - (passed + 1)) (passed + 1 + 2) (after m.phase l) s next thenᶠ (λ ls. formed (m.before (l ∷ ls))))
@@ -191,12 +194,12 @@ module _ (s : List ℕ) (start at passed : ℕ) (words codes newest : List ℕ) 
             let ei : suc (passed + 2) ≡ passed + 1 + 2 = omega arith in
             m.walked (l ∷ ls) ∙ steps-fine l ls (passed + 2) m.state p e ∙ ap (λ i. stepsᶜ (numbered i ls) (noted m.state p)) ei
 
-        pub walk-on : (later : List ℕ) → later ≡ set newest (code % 512) (passed + 1) → Midway s start next (passed + 1) (set words (passed + 1) code) (set codes (passed + 1) kind) later
+        pub walk-on : (later : Names) → later ≡ with_name names code kind (passed + 1) → Midway s start next (passed + 1) later
         unfolding line_said
         walk-on later et = let (l, el) = hr.read code kind next er in go l el (lineᶜ (passed + 2) m.state.scope l) refl (hr.is l next el)
           where
             go : (l : Line) → read_line s at ≡ got l next → (q : Checked (ℕ × Scope Kind)) → lineᶜ (passed + 2) m.state.scope l ≡ q → r ≡ line_said (line_word l) q next
-                → Midway s start next (passed + 1) (set words (passed + 1) code) (set codes (passed + 1) kind) later
+                → Midway s start next (passed + 1) later
             go l el (fine p) eq e =
                 let ec : code_of (line_word l) ≡ code = cc in
                 let ek : p.0 ≡ kind = cc in
@@ -211,7 +214,7 @@ module _ (s : List ℕ) (start at passed : ℕ) (words codes newest : List ℕ) 
                   whole = whole-after l el;
                   walked = walked-after l p eq;
                   stands = rw (et, ← ec, ← ek) (stands_after l line p fits);
-                  laid = rw (← ek) (laid-after codes (passed + 1) (omega arith) m.state p.0 m.laid);
+                  laid = rw (et, ← ek) (laid-after names.kinds (passed + 1) (omega (arith, m.stands.from.sizes.1)) m.state p.0 m.laid);
                 }
             go l el (bad f) eq e = let z : ◌≡◌ {A = ℕ} 0 1 = cc in absurd (omega arith)
 

@@ -31,6 +31,7 @@ use Rattle.sheets.proofs.reader.Spans.{holds_at}
 use Rattle.sheets.proofs.reader.ExprLaws.{ExprAt, expr-sound}
 use Rattle.sheets.proofs.rows.KindRowLaws.{kind-small, row-kind}
 use Rattle.sheets.proofs.check.PassedLaws.{kind-newest}
+use Rattle.sheets.specs.declared.check.names.Names.{Names}
 use Rattle.sheets.specs.code.check.Walking.{kind_from, kind_found, Standing, kind_said, ExprHas, key_said, ArgsHave}
 use Rattle.sheets.specs.declared.check.kind_walk.KindRead.{KindRead}
 use Rattle.sheets.specs.declared.check.kind_walk.KeyRead.{KeyRead}
@@ -46,10 +47,10 @@ some-found none f e h = absurd (h e)
 some-found (some k) f e h = (k, refl, e)
 
 -- the kind code found for a word, where the lines passed stand for the known words
-pub found-kind : (words codes newest : List ℕ) (ps : Known Kind) → Standing words codes newest ps → (code f : ℕ) → f ≡ kind_found words codes newest code
+pub found-kind : (names : Names) (ps : Known Kind) → Standing names ps → (code f : ℕ) → f ≡ kind_found names code
     → (w : Word) → IsWord w → code ≡ code_of w → f ≡ kind_or_255 (lookup w ps)
-found-kind words codes newest ps (passed, st) code f hf w hw e =
-    hf ∙ kind-newest words codes newest passed st.few st.from code ∙ ap (kind_from words codes passed) e ∙ st.is w hw
+found-kind names ps (passed, st) code f hf w hw e =
+    hf ∙ kind-newest names passed st.from code ∙ ap (kind_from names passed) e ∙ st.is w hw
 
 -- a fault where there is no kind
 said-none : (x : Fault) (o : Option Kind) (f n : ℕ) → f ≡ kind_or_255 o → f ≡ 255 → KindRead.Refused (refusal_number (fault x)) ≡ kind_said (known? x o) n
@@ -88,9 +89,9 @@ leaf-word s at depth w n e = go depth (holds_at (ExprAt s depth at) (read_expr d
 module _ (s : List ℕ) (at b : ℕ) (eb : b ≡ get_or s at 0) (depth : ℕ) (ps : Known Kind) where
   module _ (h : b ≡ 40 → ⊥) (r : WordRead) (er : r ≡ coded (read_word s at)) where
     -- a word: f is the kind code found for it
-    module _ (code n : ℕ) (hr : r ≡ WordRead.Is code n) (words codes newest : List ℕ) (st : Standing words codes newest ps) (f : ℕ) (hf : f ≡ kind_found words codes newest code) where
+    module _ (code n : ℕ) (hr : r ≡ WordRead.Is code n) (names : Names) (st : Standing names ps) (f : ℕ) (hf : f ≡ kind_found names code) where
       found-is : (w : Word) → read_expr depth s at ≡ got (word_expr w) n → code ≡ code_of w → f ≡ kind_or_255 (lookup w ps)
-      found-is w ew ec = found-kind words codes newest ps st code f hf w (leaf-word s at depth w n ew) ec
+      found-is w ew ec = found-kind names ps st code f hf w (leaf-word s at depth w n ew) ec
 
       pub word-unknown : f ≡ 255 → ExprHas s at depth ps (KindRead.Refused 5)
       unfolding kind_of_expr

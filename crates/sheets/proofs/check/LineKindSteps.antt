@@ -29,6 +29,7 @@ use Rattle.sheets.proofs.reader.ReaderLaws.{then-got}
 use Rattle.sheets.proofs.reader.Inverse.{then-read, closing-read, limit-read}
 use Rattle.sheets.proofs.reader.PieceSteps.{closing-got}
 use Rattle.sheets.proofs.reader.Slices.{word-is}
+use Rattle.sheets.specs.declared.check.names.Names.{Names}
 use Rattle.sheets.specs.code.check.Walking.{kind_found, Standing, kind_said, ExprHas, line_word, line_said, LineHas, WordHas, WholeHas, short_kind, BarredWord}
 use Rattle.sheets.specs.declared.check.kind_walk.KindRead.{KindRead}
 use Rattle.sheets.specs.declared.check.admit.LineKind.{LineKind}
@@ -57,17 +58,17 @@ module _ (ps : Known Kind) (code : ℕ) (t : Bool) (ht : t ≡ has_key (row_code
   pub barred-operator : t ≡ true → BarredWord code ps true
   barred-operator h = record { is = λ w hw e. ap (λ b. b || knows w ps) (sym h ∙ by_code_lem w hw e) }
 
-  module _ (h : t ≡ false) (words codes newest : List ℕ) (st : Standing words codes newest ps) (f : ℕ) (hf : f ≡ kind_found words codes newest code) where
+  module _ (h : t ≡ false) (names : Names) (st : Standing names ps) (f : ℕ) (hf : f ≡ kind_found names code) where
     by-lookup : (w : Word) → IsWord w → code_of w ≡ code → is_some (lookup w ps) ≡ barred w ps
     by-lookup w hw e = knows-is w ps ∙ ap (λ b. b || knows w ps) (sym h ∙ by_code_lem w hw e)
 
     pub barred-not : f ≡ 255 → BarredWord code ps false
-    barred-not i = record { is = λ w hw e. ap is_some (sym (none_found (lookup w ps) f (found-kind words codes newest ps st code f hf w hw (sym e)) i)) ∙ by-lookup w hw e }
+    barred-not i = record { is = λ w hw e. ap is_some (sym (none_found (lookup w ps) f (found-kind names ps st code f hf w hw (sym e)) i)) ∙ by-lookup w hw e }
 
     pub barred-known : (f ≡ 255 → ⊥) → BarredWord code ps true
     barred-known i = record {
       is = λ w hw e.
-          let (k, eo, ek) = some-found (lookup w ps) f (found-kind words codes newest ps st code f hf w hw (sym e)) i in
+          let (k, eo, ek) = some-found (lookup w ps) f (found-kind names ps st code f hf w hw (sym e)) i in
           ap is_some (sym eo) ∙ by-lookup w hw e;
     }
 
@@ -85,14 +86,14 @@ line_same j k f g m n d e h = rw (d, e, h) refl
 
 -- ---- a line that names a word: f is the kind code found for it
 
-module _ (words codes newest : List ℕ) (i : ℕ) (c : Scope Kind) (st : Standing words codes newest c.known) (code next f : ℕ) (hf : f ≡ kind_found words codes newest code) where
+module _ (names : Names) (i : ℕ) (c : Scope Kind) (st : Standing names c.known) (code next f : ℕ) (hf : f ≡ kind_found names code) where
   pub known-not : f ≡ 255 → WordHas code (λ w. got (show_line w) next) i c (LineKind.Refused 5)
   unfolding lineᶜ line_said
   known-not h = record {
     is = λ w hw ec. record {
       is = λ l m e.
           let el : l ≡ show_line w = cc in
-          rw (el, none_found (lookup w c.known) f (found-kind words codes newest c.known st code f hf w hw (sym ec)) h) refl;
+          rw (el, none_found (lookup w c.known) f (found-kind names c.known st code f hf w hw (sym ec)) h) refl;
       read = λ v k n e. not_line 5 v k n e;
     };
   }
@@ -102,7 +103,7 @@ module _ (words codes newest : List ℕ) (i : ℕ) (c : Scope Kind) (st : Standi
   known_is h = record {
     is = λ w hw ec. record {
       is = λ l m e.
-          let (k, eo, ek) = some-found (lookup w c.known) f (found-kind words codes newest c.known st code f hf w hw (sym ec)) h in
+          let (k, eo, ek) = some-found (lookup w c.known) f (found-kind names c.known st code f hf w hw (sym ec)) h in
           let el : l ≡ show_line w = cc in
           let en : next ≡ m = cc in
           rw (el, eo) (line_same _ _ _ _ _ _ (sym ec) ek en);

@@ -7,86 +7,93 @@ use mathlib.Core.Path.{◌≡◌, refl, sym, ap, subst, ◌∙◌}
 use mathlib.Core.Bool.{Bool, true, false}
 use mathlib.Core.List.{List}
 use lib.Dec.{eqb, ltb}
-use lib.ListN.{length, set, get_or, replicate, get_or-replicate, length-replicate, length-set}
+use lib.ListN.{get_or, get_or-replicate, length-replicate, length-set}
 use lib.Seq.{get_or-set_same, get_or-set_other}
 use borrow.Author.Tests.{eq-eqb, ne_eqb, eqb-true, eqb-false, ltb-true, ltb-false, le-leb, lt-leb}
 use Rattle.sheets.specs.Table.{when}
-use Rattle.sheets.specs.code.check.Newest.{newest_of, search_from, Newest, place_from, Placed}
+use Rattle.sheets.specs.code.check.Newest.{no_names, with_name, newest_of, search_from, Newest, place_from, Placed}
+use Rattle.sheets.specs.declared.check.names.Names.{Names}
 
 small : (c : ℕ) → c % 512 < 512
 small c = mod-lt c (omega arith)
 
-pub newest-none : (words : List ℕ) → Newest words 0 (replicate 512 0)
-newest-none words = record {
-  size = length-replicate {A = ℕ} 512 0;
+pub newest-none : Newest no_names 0
+newest-none = record {
+  sizes = (length-replicate {A = ℕ} 96 0, length-replicate {A = ℕ} 96 255, length-replicate {A = ℕ} 512 0);
+  few = omega arith;
   most = λ c. omega (arith, get_or-replicate {A = ℕ} 512 (c % 512) 0 0 (small c));
   is = λ i h. absurd (omega arith);
 }
 
-module _ (words : List ℕ) (n : ℕ) (newest : List ℕ) (h : Newest words n newest) where
+module _ (names : Names) (n : ℕ) (h : Newest names n) where
   -- one word more, at the next place
-  pub newest-more : n + 1 < length words → (c : ℕ) → Newest (set words (n + 1) c) (n + 1) (set newest (c % 512) (n + 1))
-  newest-more room c = record { size = length-set newest _ _ ∙ h.size; most = most; is = λ i l. is i l (eqb i n) refl }
+  pub newest-more : n < 95 → (c k : ℕ) → Newest (with_name names c k (n + 1)) (n + 1)
+  newest-more room c k = record {
+    sizes = (length-set names.words _ _ ∙ h.sizes.0, length-set names.kinds _ _ ∙ h.sizes.1, length-set names.newest _ _ ∙ h.sizes.2);
+    few = omega arith;
+    most = most;
+    is = λ i l. is i l (eqb i n) refl;
+  }
     where
-      later : List ℕ
-      later = set newest (c % 512) (n + 1)
+      later : Names
+      later = with_name names c k (n + 1)
 
       at-it : (d : ℕ) → d % 512 ≡ c % 512 → newest_of later d ≡ n + 1
-      at-it d e = ap (λ j. get_or later j 0) e ∙ get_or-set_same newest (c % 512) (n + 1) 0 (omega (arith, small c, h.size))
+      at-it d e = ap (λ j. get_or later.newest j 0) e ∙ get_or-set_same names.newest (c % 512) (n + 1) 0 (omega (arith, small c, h.sizes.2))
 
       most : (d : ℕ) → newest_of later d ≤ n + 1
       most d = go (eqb (d % 512) (c % 512)) refl
         where
           go : (b : Bool) → eqb (d % 512) (c % 512) ≡ b → newest_of later d ≤ n + 1
           go true e = omega (arith, at-it d (eqb-true _ _ e))
-          go false e = omega (arith, get_or-set_other newest (c % 512) (d % 512) (n + 1) 0 (eqb-false _ _ e), h.most d)
+          go false e = omega (arith, get_or-set_other names.newest (c % 512) (d % 512) (n + 1) 0 (eqb-false _ _ e), h.most d)
 
       -- a place before it stays one
-      before : (i d : ℕ) → i < n → i < newest_of newest d → (b : Bool) → eqb (d % 512) (c % 512) ≡ b → i < newest_of later d
+      before : (i d : ℕ) → i < n → i < newest_of names d → (b : Bool) → eqb (d % 512) (c % 512) ≡ b → i < newest_of later d
       before i d l m true e = omega (arith, at-it d (eqb-true _ _ e))
-      before i d l m false e = omega (arith, get_or-set_other newest (c % 512) (d % 512) (n + 1) 0 (eqb-false _ _ e))
+      before i d l m false e = omega (arith, get_or-set_other names.newest (c % 512) (d % 512) (n + 1) 0 (eqb-false _ _ e))
 
-      is : (i : ℕ) → i < n + 1 → (b : Bool) → eqb i n ≡ b → i < newest_of later (get_or (set words (n + 1) c) (suc i) 0)
+      is : (i : ℕ) → i < n + 1 → (b : Bool) → eqb i n ≡ b → i < newest_of later (get_or later.words (suc i) 0)
       is i l true e =
           let q : suc i ≡ n + 1 = omega (arith, eqb-true i n e) in
-          let d : get_or (set words (n + 1) c) (suc i) 0 ≡ c = ap (λ j. get_or (set words (n + 1) c) j 0) q ∙ get_or-set_same words (n + 1) c 0 room in
+          let d : get_or later.words (suc i) 0 ≡ c = ap (λ j. get_or later.words j 0) q ∙ get_or-set_same names.words (n + 1) c 0 (omega (arith, h.sizes.0)) in
           omega (arith, at-it _ (ap (λ k. k % 512) d))
       is i l false e =
           let q : (i ≡ n → ⊥) = eqb-false i n e in
           let j : i < n = omega arith in
-          subst (λ d. i < newest_of later d) (sym (get_or-set_other words (n + 1) (suc i) c 0 (λ z. omega arith))) (before i (get_or words (suc i) 0) j (h.is i j) (eqb (get_or words (suc i) 0 % 512) (c % 512)) refl)
+          subst (λ d. i < newest_of later d) (sym (get_or-set_other names.words (n + 1) (suc i) c 0 (λ z. omega arith))) (before i (get_or names.words (suc i) 0) j (h.is i j) (eqb (get_or names.words (suc i) 0 % 512) (c % 512)) refl)
 
   -- f k is what the search from the place k finds: it passes over each place where another word stands
-  pub from-newest : {A : Type 0} (c : ℕ) (f : ℕ → A) → ((k : ℕ) → (get_or words (suc k) 0 ≡ c → ⊥) → f k ≡ f (suc k)) → f (newest_of newest c) ≡ f n
+  pub from-newest : {A : Type 0} (c : ℕ) (f : ℕ → A) → ((k : ℕ) → (get_or names.words (suc k) 0 ≡ c → ⊥) → f k ≡ f (suc k)) → f (newest_of names c) ≡ f n
   from-newest {A} c f over = go n (h.most c) (omega arith)
     where
-      by : (k : ℕ) → newest_of newest c ≤ suc k → suc k ≤ n → (newest_of newest c ≤ k → f (newest_of newest c) ≡ f k) → (b : Bool) → ltb k (newest_of newest c) ≡ b → f (newest_of newest c) ≡ f (suc k)
-      by k low high before true e = ap f (omega (arith, ltb-true k (newest_of newest c) e))
+      by : (k : ℕ) → newest_of names c ≤ suc k → suc k ≤ n → (newest_of names c ≤ k → f (newest_of names c) ≡ f k) → (b : Bool) → ltb k (newest_of names c) ≡ b → f (newest_of names c) ≡ f (suc k)
+      by k low high before true e = ap f (omega (arith, ltb-true k (newest_of names c) e))
       by k low high before false e =
-          let l : newest_of newest c ≤ k = ltb-false k (newest_of newest c) e in
-          before l ∙ over k (λ q. let z = subst (λ j. k < newest_of newest j) q (h.is k (omega arith)) in omega arith)
+          let l : newest_of names c ≤ k = ltb-false k (newest_of names c) e in
+          before l ∙ over k (λ q. let z = subst (λ j. k < newest_of names j) q (h.is k (omega arith)) in omega arith)
 
-      go : (k : ℕ) → newest_of newest c ≤ k → k ≤ n → f (newest_of newest c) ≡ f k
+      go : (k : ℕ) → newest_of names c ≤ k → k ≤ n → f (newest_of names c) ≡ f k
       go zero low high = ap f (omega arith)
-      go (suc k) low high = by k low high (λ l. go k l (omega arith)) (ltb k (newest_of newest c)) refl
+      go (suc k) low high = by k low high (λ l. go k l (omega arith)) (ltb k (newest_of names c)) refl
 
   -- so the word's place is found from there
-  pub search_is : n ≤ 95 → (c : ℕ) → search_from newest c ≡ newest_of newest c
+  pub search_is : (c : ℕ) → search_from names c ≡ newest_of names c
   unfolding search_from
-  search_is few c = rw (le-leb (newest_of newest c) 95 (omega (arith, h.most c))) refl
+  search_is c = rw (le-leb (newest_of names c) 95 (omega (arith, h.most c, h.few))) refl
 
-  pub place_is : n ≤ 95 → (c j : ℕ) → Placed words newest c j → j ≡ place_from words n c
+  pub place_is : (c j : ℕ) → Placed names c j → j ≡ place_from names.words n c
   unfolding place_from
-  place_is few c j p = p.is ∙ ap (λ k. place_from words k c) (search_is few c) ∙ from-newest c (λ k. place_from words k c) (λ k q. rw (ne_eqb (get_or words (suc k) 0) c q) refl)
+  place_is c j p = p.is ∙ ap (λ k. place_from names.words k c) (search_is c) ∙ from-newest c (λ k. place_from names.words k c) (λ k q. rw (ne_eqb (get_or names.words (suc k) 0) c q) refl)
 
 -- ---- the search, a place at a time
 
-module _ (words newest : List ℕ) (c i : ℕ) (e : i ≡ newest_of newest c) where
-  pub search-none : 95 < i → 0 ≡ place_from words (search_from newest c) c
+module _ (names : Names) (c i : ℕ) (e : i ≡ newest_of names c) where
+  pub search-none : 95 < i → 0 ≡ place_from names.words (search_from names c) c
   unfolding search_from place_from
   search-none h = rw (← e, lt-leb i 95 h) refl
 
-  pub search-some : i ≤ 95 → place_from words i c ≡ place_from words (search_from newest c) c
+  pub search-some : i ≤ 95 → place_from names.words i c ≡ place_from names.words (search_from names c) c
   unfolding search_from
   search-some h = rw (← e, le-leb i 95 h) refl
 

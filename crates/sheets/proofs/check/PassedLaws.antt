@@ -1,12 +1,12 @@
 -- The words of the lines passed, by their codes: the readings, a word's kind, and one line more. Assumes nothing.
-use Prim.Native.Nat.{ℕ, zero, suc, ◌+◌, ◌-◌, ◌%◌, ◌<◌, ◌≤◌}
+use Prim.Native.Nat.{ℕ, zero, suc, ◌+◌, ◌-◌, ◌<◌, ◌≤◌}
 use native.Mathlib.Omega.{arith}
 use mathlib.Core.Path.{◌≡◌, refl, sym, ap, ◌∙◌, subst}
 use mathlib.Core.Bool.{Bool, true, false, ◌||◌, ◌&&◌}
 use mathlib.Core.List.{List, [], ◌∷◌, map}
 use mathlib.Core.Option.{Option, some}
 use lib.Dec.{T, eqb, leb}
-use lib.ListN.{length, set, get_or}
+use lib.ListN.{get_or}
 use lib.Seq.{get_or-set_same, get_or-set_other}
 use mir.Facts.{and_yes}
 use mir.Val.{has_key}
@@ -24,7 +24,8 @@ use Rattle.sheets.proofs.reader.CodeLaws.{code-none}
 use Rattle.sheets.proofs.check.ReadingLaws.{codes_of, AreWords, reading_codes, readings-are}
 use Rattle.sheets.proofs.check.KindExact.{same_word_lem}
 use Rattle.sheets.proofs.rows.KindRowLaws.{words-agree, every, of-every}
-use Rattle.sheets.specs.code.check.Newest.{Newest, place_from}
+use Rattle.sheets.specs.code.check.Newest.{with_name, Newest, place_from}
+use Rattle.sheets.specs.declared.check.names.Names.{Names}
 use Rattle.sheets.proofs.check.NewestLaws.{newest-more, search_is, from-newest, by_place}
 use Rattle.sheets.specs.code.check.Walking.{reading_kind, kind_from, kind_found, Stands}
 
@@ -131,78 +132,73 @@ module _ (c : ℕ) where
 
 -- ---- a word's kind by its place: that of its line, or a reading's
 
-module _ (words codes : List ℕ) (n : ℕ) (c j : ℕ) (e : j ≡ place_from words n c) where
-  at_place : kind_from words codes n c ≡ when (eqb j 0) (reading_kind c) (get_or codes j 0)
+module _ (names : Names) (n : ℕ) (c j : ℕ) (e : j ≡ place_from names.words n c) where
+  at_place : kind_from names n c ≡ when (eqb j 0) (reading_kind c) (get_or names.kinds j 0)
   unfolding kind_from
-  at_place = by_place words c (λ k. get_or codes k 0) (λ k. kind_from words codes k c) n (λ k l. refl) ∙ ap (λ k. when (eqb k 0) (reading_kind c) (get_or codes k 0)) (sym e)
+  at_place = by_place names.words c (λ k. get_or names.kinds k 0) (λ k. kind_from names k c) n (λ k l. refl) ∙ ap (λ k. when (eqb k 0) (reading_kind c) (get_or names.kinds k 0)) (sym e)
 
-  pub kind-reading : j ≡ 0 → reading_kind c ≡ kind_from words codes n c
+  pub kind-reading : j ≡ 0 → reading_kind c ≡ kind_from names n c
   kind-reading h = sym (at_place ∙ rw (eq-eqb j 0 h) refl)
 
-  pub kind-there : (j ≡ 0 → ⊥) → get_or codes j 0 ≡ kind_from words codes n c
+  pub kind-there : (j ≡ 0 → ⊥) → get_or names.kinds j 0 ≡ kind_from names n c
   kind-there h = sym (at_place ∙ rw (ne_eqb j 0 h) refl)
 
 -- the search may begin at the newest place for the word's remainder
-pub kind-newest : (words codes newest : List ℕ) (n : ℕ) → n ≤ 95 → Newest words n newest → (c : ℕ) → kind_found words codes newest c ≡ kind_from words codes n c
+pub kind-newest : (names : Names) (n : ℕ) → Newest names n → (c : ℕ) → kind_found names c ≡ kind_from names n c
 unfolding kind_found kind_from
-kind-newest words codes newest n few h c =
-    ap (λ k. kind_from words codes k c) (search_is words n newest h few c)
-    ∙ from-newest words n newest h c (λ k. kind_from words codes k c) (λ k e. rw (ne_eqb (get_or words (suc k) 0) c e) refl)
+kind-newest names n h c =
+    ap (λ k. kind_from names k c) (search_is names n h c)
+    ∙ from-newest names n h c (λ k. kind_from names k c) (λ k e. rw (ne_eqb (get_or names.words (suc k) 0) c e) refl)
 
 -- ---- one line more
 
 -- the lines before the place i stay as they are
-kept : (words codes : List ℕ) (i a b n : ℕ) → n < i → (c : ℕ) → kind_from (set words i a) (set codes i b) n c ≡ kind_from words codes n c
+kept : (names : Names) (i a b n : ℕ) → n < i → (c : ℕ) → kind_from (with_name names a b i) n c ≡ kind_from names n c
 unfolding kind_from
-kept words codes i a b zero h c = refl
-kept words codes i a b (suc n) h c =
-    rw (get_or-set_other words i (suc n) a 0 (omega arith), get_or-set_other codes i (suc n) b 0 (omega arith), kept words codes i a b n (omega arith) c) refl
+kept names i a b zero h c = refl
+kept names i a b (suc n) h c =
+    rw (get_or-set_other names.words i (suc n) a 0 (omega arith), get_or-set_other names.kinds i (suc n) b 0 (omega arith), kept names i a b n (omega arith) c) refl
 
-module _ (words codes newest : List ℕ) (passed : ℕ) (ps : Known Kind) (st : Stands words codes newest passed ps) (lw : length words ≡ 96) (lc : length codes ≡ 96) (room : passed < 95) (w : Word) (hw : IsWord w) (k : Kind) where
-  one_more : (v : Word) → IsWord v
-      → kind_from (set words (passed + 1) (code_of w)) (set codes (passed + 1) (kind_code k)) (passed + 1) (code_of v) ≡ when (same_word v w) (kind_code k) (kind_or_255 (lookup v ps))
+module _ (names : Names) (passed : ℕ) (ps : Known Kind) (st : Stands names passed ps) (room : passed < 95) where
+  -- the line's word has the code a, and its kind the code b
+  one_more : (a b : ℕ) (v : Word) → IsWord v → kind_from (with_name names a b (passed + 1)) (passed + 1) (code_of v) ≡ when (eqb a (code_of v)) b (kind_or_255 (lookup v ps))
   unfolding kind_from
-  one_more v hv = go (passed + 1) (omega arith) (omega arith)
+  one_more a b v hv = go (passed + 1) (omega arith) (omega arith)
     where
-      go : (i : ℕ) → i ≡ suc passed → i < 96 → kind_from (set words i (code_of w)) (set codes i (kind_code k)) i (code_of v) ≡ when (same_word v w) (kind_code k) (kind_or_255 (lookup v ps))
+      go : (i : ℕ) → i ≡ suc passed → i < 96 → kind_from (with_name names a b i) i (code_of v) ≡ when (eqb a (code_of v)) b (kind_or_255 (lookup v ps))
       go zero e h = absurd (omega arith)
       go (suc n) e h =
           let en : n ≡ passed = omega arith in
-          rw (get_or-set_same words (suc n) (code_of w) 0 (omega arith), get_or-set_same codes (suc n) (kind_code k) 0 (omega arith), words-agree w v hw hv)
-          (ap (when (same_word v w) (kind_code k)) (kept words codes (suc n) (code_of w) (kind_code k) n (omega arith) (code_of v) ∙ ap (λ m. kind_from words codes m (code_of v)) en ∙ st.is v hv))
+          rw (get_or-set_same names.words (suc n) a 0 (omega (arith, st.from.sizes.0)), get_or-set_same names.kinds (suc n) b 0 (omega (arith, st.from.sizes.1)))
+          (ap (when (eqb a (code_of v)) b) (kept names (suc n) a b n (omega arith) (code_of v) ∙ ap (λ m. kind_from names m (code_of v)) en ∙ st.is v hv))
 
-  from_more : Newest (set words (passed + 1) (code_of w)) (passed + 1) (set newest (code_of w % 512) (passed + 1))
-  from_more = newest-more words passed newest st.from (omega arith) (code_of w)
+  module _ (w : Word) (hw : IsWord w) (k : Kind) where
+    -- the word of a line that is w, of the kind k
+    abbrev After : Known Kind → Type 0
+    After qs = Stands (with_name names (code_of w) (kind_code k) (passed + 1)) (passed + 1) qs
 
-  -- a let gives the word
-  pub stands-given : (i : ℕ) → Stands (set words (passed + 1) (code_of w)) (set codes (passed + 1) (kind_code k)) (set newest (code_of w % 512) (passed + 1)) (passed + 1) (given_on i w k ∷ ps)
-  stands-given i = record { few = omega arith; from = from_more; is = λ v hv. one_more v hv ∙ go (same_word v w) (lookup v ps) }
-    where
-      go : (b : Bool) (o : Option Kind) → when b (kind_code k) (kind_or_255 o) ≡ kind_or_255 (or_else b k o)
-      go true o = refl
-      go false o = refl
+    named-so : (v : Word) → IsWord v → kind_from (with_name names (code_of w) (kind_code k) (passed + 1)) (passed + 1) (code_of v) ≡ when (same_word v w) (kind_code k) (kind_or_255 (lookup v ps))
+    named-so v hv = one_more (code_of w) (kind_code k) v hv ∙ ap (λ b. when b (kind_code k) (kind_or_255 (lookup v ps))) (words-agree w v hw hv)
 
-  -- a show's word is known
-  pub stands-shown : lookup w ps ≡ some k → Stands (set words (passed + 1) (code_of w)) (set codes (passed + 1) (kind_code k)) (set newest (code_of w % 512) (passed + 1)) (passed + 1) ps
-  stands-shown e = record { few = omega arith; from = from_more; is = λ v hv. one_more v hv ∙ go v (same_word v w) refl }
-    where
-      go : (v : Word) (b : Bool) → same_word v w ≡ b → when b (kind_code k) (kind_or_255 (lookup v ps)) ≡ kind_or_255 (lookup v ps)
-      go v true h = ap kind_or_255 (sym e ∙ ap (λ u. lookup u ps) (sym (same_word_lem v w (subst T (sym h) tt))))
-      go v false h = refl
+    -- a let gives the word
+    pub stands-given : (i : ℕ) → After (given_on i w k ∷ ps)
+    stands-given i = record { from = newest-more names passed st.from room _ _; is = λ v hv. named-so v hv ∙ go (same_word v w) (lookup v ps) }
+      where
+        go : (b : Bool) (o : Option Kind) → when b (kind_code k) (kind_or_255 o) ≡ kind_or_255 (or_else b k o)
+        go true o = refl
+        go false o = refl
 
--- a line that stands for no word
-pub stands-blank : (words codes newest : List ℕ) (passed : ℕ) (ps : Known Kind) → Stands words codes newest passed ps → length words ≡ 96 → passed < 95 → (k : ℕ)
-    → Stands (set words (passed + 1) (code_of [])) (set codes (passed + 1) k) (set newest (code_of [] % 512) (passed + 1)) (passed + 1) ps
-unfolding kind_from
-stands-blank words codes newest passed ps st lw room k = record {
-  few = omega arith;
-  from = newest-more words passed newest st.from (omega arith) (code_of []);
-  is = λ v hv. go v hv (passed + 1) (omega arith) (omega arith);
-}
-  where
-    go : (v : Word) → IsWord v → (i : ℕ) → i ≡ suc passed → i < 96 → kind_from (set words i (code_of [])) (set codes i k) i (code_of v) ≡ kind_or_255 (lookup v ps)
-    go v hv zero e h = absurd (omega arith)
-    go v hv (suc n) e h =
-        let en : n ≡ passed = omega arith in
-        rw (get_or-set_same words (suc n) (code_of []) 0 (omega arith), ne_eqb (code_of []) (code_of v) (code-none v hv))
-        (kept words codes (suc n) (code_of []) k n (omega arith) (code_of v) ∙ ap (λ m. kind_from words codes m (code_of v)) en ∙ st.is v hv)
+    -- a show's word is known
+    pub stands-shown : lookup w ps ≡ some k → After ps
+    stands-shown e = record { from = newest-more names passed st.from room _ _; is = λ v hv. named-so v hv ∙ go v (same_word v w) refl }
+      where
+        go : (v : Word) (b : Bool) → same_word v w ≡ b → when b (kind_code k) (kind_or_255 (lookup v ps)) ≡ kind_or_255 (lookup v ps)
+        go v true h = ap kind_or_255 (sym e ∙ ap (λ u. lookup u ps) (sym (same_word_lem v w (subst T (sym h) tt))))
+        go v false h = refl
+
+  -- a line that stands for no word
+  pub stands-blank : (k : ℕ) → Stands (with_name names (code_of []) k (passed + 1)) (passed + 1) ps
+  stands-blank k = record {
+    from = newest-more names passed st.from room _ _;
+    is = λ v hv. one_more (code_of []) k v hv ∙ ap (λ b. when b k (kind_or_255 (lookup v ps))) (ne_eqb (code_of []) (code_of v) (code-none v hv));
+  }

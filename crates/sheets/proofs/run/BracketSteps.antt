@@ -25,6 +25,7 @@ use Rattle.sheets.specs.code.reader.Views.{place, coded}
 use Rattle.sheets.specs.code.rows.KindCodes.{key_from, key_of}
 use Rattle.sheets.specs.code.run.Floats.{value_at, values_at, Lies, KeptBelow}
 use Rattle.sheets.specs.code.run.Known.{Ready}
+use Rattle.sheets.specs.declared.check.names.Names.{Names}
 use Rattle.sheets.specs.code.run.Evaluating.{evaluated, LiesOf, Answers, ForKinds, EvalsWith, BracketWith}
 use Rattle.sheets.proofs.reader.ReaderLaws.{close-read}
 use Rattle.sheets.proofs.reader.ExprSteps.{not-close, args_none, args-other}
@@ -64,9 +65,9 @@ module _ (n top : ℕ) (f : List Float) (r : Evaluated) (g : List Float) where
 -- ---- the bracket, where its word was read
 
 pub evals-form : (s : List ℕ) (at b : ℕ) → b ≡ get_or s at 0 → (depth : ℕ) → b ≡ 40 → (depth ≡ 0 → ⊥) → (r : WordRead) → r ≡ coded (read_word s (at + 1)) → (k m : ℕ) → r ≡ WordRead.Is k m
-    → (e : Ellipsoid) (words kinds newest : List ℕ) (f : List Float) (top : ℕ) (q : Evaluated) (g : List Float) → BracketWith s m (depth - 1) 5 e k words kinds newest 0 f top q g → EvalsWith s at depth e words kinds newest f top q g
+    → (e : Ellipsoid) (names : Names) (f : List Float) (top : ℕ) (q : Evaluated) (g : List Float) → BracketWith s m (depth - 1) 5 e k names 0 f top q g → EvalsWith s at depth e names f top q g
 unfolding eval key_from values_at
-evals-form s at b eb depth h d r er k m hr e words kinds newest f top q g hq = record {
+evals-form s at b eb depth h d r er k m hr e names f top q g hq = record {
   is = λ ps rd. record {
     is = λ x n gx.
         let (w, es, iw, ek, ea, ee) = form-read s at b eb depth h d r er k m hr x n gx in
@@ -76,17 +77,17 @@ evals-form s at b eb depth h d r er k m hr e words kinds newest f top q g hq = r
 
 -- ---- the arguments
 
-module _ (s : List ℕ) (at b : ℕ) (eb : b ≡ get_or s at 0) (depth left : ℕ) (e : Ellipsoid) (code : ℕ) (words kinds newest : List ℕ) (key : ℕ) (f : List Float) (top : ℕ) where
-  bracket-bad : (r : Evaluated) (g : List Float) → Read.Bad ≡ place (read_args (read_expr depth s) left s at) → BracketWith s at depth left e code words kinds newest key f top r g
+module _ (s : List ℕ) (at b : ℕ) (eb : b ≡ get_or s at 0) (depth left : ℕ) (e : Ellipsoid) (code : ℕ) (names : Names) (key : ℕ) (f : List Float) (top : ℕ) where
+  bracket-bad : (r : Evaluated) (g : List Float) → Read.Bad ≡ place (read_args (read_expr depth s) left s at) → BracketWith s at depth left e code names key f top r g
   bracket-bad r g h = record { is = λ ps rd ks ek el w iw ec. record { is = λ es n k. not-read (read_args (read_expr depth s) left s at) es n h k } }
 
-  pub bracket-sixth : b ≡ 32 → left ≡ 0 → (r : Evaluated) (g : List Float) → BracketWith s at depth left e code words kinds newest key f top r g
+  pub bracket-sixth : b ≡ 32 → left ≡ 0 → (r : Evaluated) (g : List Float) → BracketWith s at depth left e code names key f top r g
   bracket-sixth h l r g = bracket-bad r g (args_none (read_expr depth s) s at b eb left (not-close b h) l)
 
-  pub bracket-other : (b ≡ 32 → ⊥) → (b ≡ 41 → ⊥) → (r : Evaluated) (g : List Float) → BracketWith s at depth left e code words kinds newest key f top r g
+  pub bracket-other : (b ≡ 32 → ⊥) → (b ≡ 41 → ⊥) → (r : Evaluated) (g : List Float) → BracketWith s at depth left e code names key f top r g
   bracket-other h c r g = bracket-bad r g (args-other (read_expr depth s) s at b eb left c h)
 
-  pub bracket-closed : b ≡ 41 → (r : Evaluated) (g : List Float) → ForKinds e code key f top (at + 1) r g → BracketWith s at depth left e code words kinds newest key f top r g
+  pub bracket-closed : b ≡ 41 → (r : Evaluated) (g : List Float) → ForKinds e code key f top (at + 1) r g → BracketWith s at depth left e code names key f top r g
   unfolding evals
   bracket-closed h r g hr = record {
     is = λ ps rd ks ek el w iw ec. record {
@@ -95,30 +96,30 @@ module _ (s : List ℕ) (at b : ℕ) (eb : b ≡ get_or s at 0) (depth left : �
           let ee : es ≡ nil = cc in
           let en : n ≡ at + 1 = cc in
           let row : List Value → Out Value = λ vs. apply_row e (find table w vs) in
-          rw (ee, en) (answers-same (at + 1) top f r g (row (values_at ks f top)) _ (ap (λ vs. bare (row vs)) (sym (append-nil (values_at ks f top))) ∙ sym (bare-after [] (row (values_at ks f top ++ [])))) ((hr.is ks ek).is rd.listed.sizes.2 w iw ec));
+          rw (ee, en) (answers-same (at + 1) top f r g (row (values_at ks f top)) _ (ap (λ vs. bare (row vs)) (sym (append-nil (values_at ks f top))) ∙ sym (bare-after [] (row (values_at ks f top ++ [])))) ((hr.is ks ek).is rd.listed.size w iw ec));
     };
   }
 
-  module _ (h : b ≡ 32) (l : left ≡ 0 → ⊥) (room : ℕ) (er : room ≡ top + 21 * (5 - left)) (r : Evaluated) (g : List Float) (hr : EvalsWith s (at + 1) depth e words kinds newest f room r g) where
+  module _ (h : b ≡ 32) (l : left ≡ 0 → ⊥) (room : ℕ) (er : room ≡ top + 21 * (5 - left)) (r : Evaluated) (g : List Float) (hr : EvalsWith s (at + 1) depth e names f room r g) where
     -- by what the first argument comes to
     args_are : (q : Evaluated) (g' : List Float)
-        → ((ps : Known Value) → Ready ps words kinds newest f top → (ks : List Kind) → key_of ks ≡ key → length ks + left ≡ 5 → (w : Word) → IsWord w → code ≡ code_of w
+        → ((ps : Known Value) → Ready ps names f top → (ks : List Kind) → key_of ks ≡ key → length ks + left ≡ 5 → (w : Word) → IsWord w → code ≡ code_of w
         → (m : ℕ) (xs : Exprs) (n : ℕ) → read_args (read_expr depth s) (left - 1) s m ≡ got xs n → (o : Out Value) → Answers o m room f r g
         → Answers (thenᵒ (thenᵒ o (λ y. thenᵒ (evals xs e ps) (λ ys. goes [] (y ∷ ys)))) (λ us. apply_row e (find table w (values_at ks f top ++ us)))) n top f q g')
-        → BracketWith s at depth left e code words kinds newest key f top q g'
+        → BracketWith s at depth left e code names key f top q g'
     unfolding evals
     args_are q g' k = record {
       is = λ ps rd ks ek el w iw ec. record {
         is = λ es n p.
             let (x, m, xs, ex, ef, ee) = arg-read (read_expr depth s) s at b eb left l h es n p in
-            rw ee (k ps rd ks ek el w iw ec m xs n ef (eval x e ps) ((hr.is ps (ready-above ps words kinds newest f top rd room (omega (arith, er)))).is x m ex));
+            rw ee (k ps rd ks ek el w iw ec m xs n ef (eval x e ps) ((hr.is ps (ready-above ps names f top rd room (omega (arith, er)))).is x m ex));
       };
     }
 
     less : KeptBelow f room g → KeptBelow f top g
     less k = kept_trans f f g top room (kept_refl f top) k (omega (arith, er))
 
-    pub bracket-stopped : (j : ℕ) → r ≡ Evaluated.Stops j → BracketWith s at depth left e code words kinds newest key f top (Evaluated.Stops j) g
+    pub bracket-stopped : (j : ℕ) → r ≡ Evaluated.Stops j → BracketWith s at depth left e code names key f top (Evaluated.Stops j) g
     unfolding evaluated LiesOf
     bracket-stopped j es = args_are _ g (λ ps rd ks ek el w iw ec m xs n ef o a. go ps ks w xs m n o a (sym es ∙ a.is))
       where
@@ -128,7 +129,7 @@ module _ (s : List ℕ) (at b : ℕ) (eb : b ≡ get_or s at 0) (depth left : �
         go ps ks w xs m n (stops hs c) a p = record { is = p; lies = tt; kept = less a.kept }
         go ps ks w xs m n (sticks hs) a p = let z : ◌≡◌ {A = ℕ} 0 1 = cc in absurd (omega arith)
 
-    pub bracket-stuck : r ≡ Evaluated.Sticks → BracketWith s at depth left e code words kinds newest key f top Evaluated.Sticks g
+    pub bracket-stuck : r ≡ Evaluated.Sticks → BracketWith s at depth left e code names key f top Evaluated.Sticks g
     unfolding evaluated LiesOf
     bracket-stuck es = args_are _ g (λ ps rd ks ek el w iw ec m xs n ef o a. go ps ks w xs m n o a (sym es ∙ a.is))
       where
@@ -162,15 +163,15 @@ then-more row vs us v e hs (goes gs ys) =
 then-more row vs us v e hs (stops gs c) = refl
 then-more row vs us v e hs (sticks gs) = refl
 
-module _ (s : List ℕ) (at b : ℕ) (eb : b ≡ get_or s at 0) (depth left : ℕ) (e : Ellipsoid) (code : ℕ) (words kinds newest : List ℕ) (key : ℕ) (f : List Float) (top : ℕ)
-    (h : b ≡ 32) (l : left ≡ 0 → ⊥) (room : ℕ) (er : room ≡ top + 21 * (5 - left)) (r : Evaluated) (g : List Float) (hr : EvalsWith s (at + 1) depth e words kinds newest f room r g) where
+module _ (s : List ℕ) (at b : ℕ) (eb : b ≡ get_or s at 0) (depth left : ℕ) (e : Ellipsoid) (code : ℕ) (names : Names) (key : ℕ) (f : List Float) (top : ℕ)
+    (h : b ≡ 32) (l : left ≡ 0 → ⊥) (room : ℕ) (er : room ≡ top + 21 * (5 - left)) (r : Evaluated) (g : List Float) (hr : EvalsWith s (at + 1) depth e names f room r g) where
   pub bracket-more : (kind end : ℕ) → r ≡ Evaluated.Is kind end → (key' : ℕ) → key' ≡ key * 16 + kind + 1 → (q : Evaluated) (g' : List Float)
-      → BracketWith s end depth (left - 1) e code words kinds newest key' g top q g' → BracketWith s at depth left e code words kinds newest key f top q g'
+      → BracketWith s end depth (left - 1) e code names key' g top q g' → BracketWith s at depth left e code names key f top q g'
   unfolding evaluated LiesOf
-  bracket-more kind end es key' ek' q g' hq = args_are s at b eb depth left e code words kinds newest key f top h l room er r g hr q g'
+  bracket-more kind end es key' ek' q g' hq = args_are s at b eb depth left e code names key f top h l room er r g hr q g'
       (λ ps rd ks ek el w iw ec m xs n ef o a. go ps rd ks ek el w iw ec m xs n ef o a (sym es ∙ a.is))
     where
-      go : (ps : Known Value) → Ready ps words kinds newest f top → (ks : List Kind) → key_of ks ≡ key → length ks + left ≡ 5 → (w : Word) → IsWord w → code ≡ code_of w
+      go : (ps : Known Value) → Ready ps names f top → (ks : List Kind) → key_of ks ≡ key → length ks + left ≡ 5 → (w : Word) → IsWord w → code ≡ code_of w
           → (m : ℕ) (xs : Exprs) (n : ℕ) → read_args (read_expr depth s) (left - 1) s m ≡ got xs n → (o : Out Value) → Answers o m room f r g → Evaluated.Is kind end ≡ evaluated o m
           → Answers (thenᵒ (thenᵒ o (λ y. thenᵒ (evals xs e ps) (λ ys. goes [] (y ∷ ys)))) (λ us. apply_row e (find table w (values_at ks f top ++ us)))) n top f q g'
       go ps rd ks ek el w iw ec m xs n ef (goes hs v) a p =
@@ -181,7 +182,7 @@ module _ (s : List ℕ) (at b : ℕ) (eb : b ≡ get_or s at 0) (depth left : �
           let us = values_at (ks ++ (kind_of v ∷ [])) g top in
           let eu : us ≡ values_at ks f top ++ (v ∷ []) = values-more ks f g top v kp (subst (λ z. Lies g z v) place a.lies) in
           let row : List Value → Out Value = λ vs. apply_row e (find table w vs) in
-          let b1 = hq.is ps (ready-kept ps words kinds newest f top rd room g a.kept (omega (arith, er))) (ks ++ (kind_of v ∷ []))
+          let b1 = hq.is ps (ready-kept ps names f top rd room g a.kept (omega (arith, er))) (ks ++ (kind_of v ∷ []))
           (key_more (kind_of v) ks 0 ∙ ap (λ z. z * 16 + suc (kind_code (kind_of v))) ek ∙ omega (arith, ik, ek')) (omega (arith, length-append ks (kind_of v ∷ []), el, l)) w iw ec in
           let b2 : Answers (thenᵒ (evals xs e ps) (λ ys. row (us ++ ys))) n top g q g' = b1.is xs n (subst (λ z. read_args (read_expr depth s) (left - 1) s z ≡ got xs n) im ef) in
           let b3 = answers-same n top g q g' _ (thenᵒ (after hs (thenᵒ (evals xs e ps) (λ ys. goes [] (v ∷ ys)))) (λ ys. row (values_at ks f top ++ ys))) (then-more row (values_at ks f top) us v eu hs (evals xs e ps)) b2 in

@@ -25,6 +25,7 @@ use Rattle.sheets.specs.Machine.{met, meet, eval}
 use Rattle.sheets.specs.code.reader.Codes.{code_of}
 use Rattle.sheets.specs.code.reader.Reader.{none as no_got, got, ◌then◌, read_word, read_num, or_num, read_leaf, read_expr}
 use Rattle.sheets.specs.code.reader.Views.{place, coded, doubled}
+use Rattle.sheets.specs.declared.check.names.Names.{Names}
 use Rattle.sheets.specs.code.check.Newest as Search
 use Rattle.sheets.specs.code.run.Slots.{empty_slot}
 use Rattle.sheets.specs.code.run.Floats.{float_at, value_at, Copied}
@@ -44,14 +45,14 @@ use Rattle.sheets.proofs.run.LaidSteps.{answers-tested, answers-none}
 met-number : (x : Float) (f : List Float) (top n : ℕ) → length f ≡ 2940 → top + 21 ≤ 2940 → (q : Evaluated) → q ≡ tested_at 0 (set f top x) top n → Answers (met (Number x)) n top f q (set f top x)
 met-number x f top n lf room q eq = answers-tested top n f (set f top x) [] (Number x) (lies-number f lf top room x) (kept_set f top x) 0 refl q eq
 
-module _ (code n : ℕ) (words kinds newest : List ℕ) (f : List Float) (top : ℕ) (room : top + 21 ≤ 2940) (j : ℕ) (pj : Search.Placed words newest code j) where
+module _ (code n : ℕ) (names : Names) (f : List Float) (top : ℕ) (room : top + 21 ≤ 2940) (j : ℕ) (pj : Search.Placed names code j) where
   -- by the word's place
-  by-found : (ps : Known Value) (r : Ready ps words kinds newest f top) (w : Word) → IsWord w → code ≡ code_of w
+  by-found : (ps : Known Value) (r : Ready ps names f top) (w : Word) → IsWord w → code ≡ code_of w
       → lookup w ps ≡ when (eqb j 0) (reading_found code r.readings) (some (get_or r.slots j empty_slot).value)
-  by-found ps r w iw ec = r.tabled.is w iw ∙ ap (word_found r.slots r.readings r.n) (sym ec) ∙ sym (listed-is r.slots r.readings words kinds newest f r.n r.listed code j pj)
+  by-found ps r w iw ec = r.tabled.is w iw ∙ ap (word_found r.slots r.readings r.n) (sym ec) ∙ sym (listed-is r.slots r.readings names f r.n r.listed code j pj)
 
   module _ (z : j ≡ 0) (i : ℕ) (ei : i ≡ reading_index code) where
-    pub known-none : 16 ≤ i → KnownWith code n words kinds newest f top Evaluated.Sticks f
+    pub known-none : 16 ≤ i → KnownWith code n names f top Evaluated.Sticks f
     unfolding reading_found
     known-none h = record {
       is = λ ps r w iw ec.
@@ -59,29 +60,29 @@ module _ (code n : ℕ) (words kinds newest : List ℕ) (f : List Float) (top : 
           subst (λ o. Answers (meet o) n top f Evaluated.Sticks f) (sym u) (answers-none top n f []);
     }
 
-    pub known-reading : i < 16 → (q : Evaluated) → q ≡ tested_at 0 (set f top (float_at f i)) top n → KnownWith code n words kinds newest f top q (set f top (float_at f i))
+    pub known-reading : i < 16 → (q : Evaluated) → q ≡ tested_at 0 (set f top (float_at f i)) top n → KnownWith code n names f top q (set f top (float_at f i))
     unfolding reading_found
     known-reading h q eq = record {
       is = λ ps r w iw ec.
           let u : lookup w ps ≡ some (Number (float_at f i)) = by-found ps r w iw ec ∙ rw (eq-eqb j 0 z, ← ei, lt-leb 16 i h) (ap (λ x. some (Number x)) (sym (r.listed.reading i h))) in
-          subst (λ o. Answers (meet o) n top f q (set f top (float_at f i))) (sym u) (met-number (float_at f i) f top n r.listed.sizes.2 room q eq);
+          subst (λ o. Answers (meet o) n top f q (set f top (float_at f i))) (sym u) (met-number (float_at f i) f top n r.listed.size room q eq);
     }
 
-  pub known-name : (j ≡ 0 → ⊥) → (k : ℕ) → k ≡ get_or kinds j 0 → (g : List Float) → Copied f (21 * j) top g → (q : Evaluated) → q ≡ tested_at k g top n → KnownWith code n words kinds newest f top q g
+  pub known-name : (j ≡ 0 → ⊥) → (k : ℕ) → k ≡ get_or names.kinds j 0 → (g : List Float) → Copied f (21 * j) top g → (q : Evaluated) → q ≡ tested_at k g top n → KnownWith code n names f top q g
   known-name z k ek g cp q eq = record {
     is = λ ps r w iw ec.
         let u : lookup w ps ≡ some (get_or r.slots j empty_slot).value = by-found ps r w iw ec ∙ rw (ne_eqb j 0 z) refl in
-        let few = placed-few r.slots r.readings words kinds newest f r.n r.listed code j pj in
-        let p = placed-slot r.slots r.readings words kinds newest f r.n r.listed j z few in
+        let few = placed-few r.slots r.readings names f r.n r.listed code j pj in
+        let p = placed-slot r.slots r.readings names f r.n r.listed j z few in
         let v = (get_or r.slots j empty_slot).value in
-        let same : value_at (kind_of v) g top ≡ value_at (kind_of v) f (21 * j) = same-value (kind_of v) g f top (21 * j) (λ m l. cp.is r.listed.sizes.2 (omega (arith, few, r.below)) m l) in
+        let same : value_at (kind_of v) g top ≡ value_at (kind_of v) f (21 * j) = same-value (kind_of v) g f top (21 * j) (λ m l. cp.is r.listed.size (omega (arith, few, r.below)) m l) in
         subst (λ o. Answers (meet o) n top f q g) (sym u) (answers-tested top n f g [] v (record { is = same ∙ p.lies.is }) cp.kept k (ek ∙ p.kind) q eq);
   }
 
 -- ---- a word or a NUM
 
-module _ (s : List ℕ) (at : ℕ) (words kinds newest : List ℕ) (f : List Float) (top : ℕ) (r : WordRead) (er : r ≡ coded (read_word s at)) where
-  pub leaf-word : (k m : ℕ) → r ≡ WordRead.Is k m → (q : Evaluated) (g : List Float) → KnownWith k m words kinds newest f top q g → LeafWith s at words kinds newest f top q g
+module _ (s : List ℕ) (at : ℕ) (names : Names) (f : List Float) (top : ℕ) (r : WordRead) (er : r ≡ coded (read_word s at)) where
+  pub leaf-word : (k m : ℕ) → r ≡ WordRead.Is k m → (q : Evaluated) (g : List Float) → KnownWith k m names f top q g → LeafWith s at names f top q g
   unfolding read_leaf or_num eval
   leaf-word k m h q g hq = record {
     is = λ ps rd e x n k'.
@@ -97,7 +98,7 @@ module _ (s : List ℕ) (at : ℕ) (words kinds newest : List ℕ) (f : List Flo
     unfolding read_leaf or_num
     leaf-is = ap (λ o. or_num o (read_num s at)) (coded_none (read_word s at) r er h)
 
-    pub leaf-num : top + 21 ≤ 2940 → (y : Float) (m : ℕ) → v ≡ DoubleRead.Is y m → (q : Evaluated) → q ≡ tested_at 0 (set f top y) top m → LeafWith s at words kinds newest f top q (set f top y)
+    pub leaf-num : top + 21 ≤ 2940 → (y : Float) (m : ℕ) → v ≡ DoubleRead.Is y m → (q : Evaluated) → q ≡ tested_at 0 (set f top y) top m → LeafWith s at names f top q (set f top y)
     unfolding ◌then◌ eval
     leaf-num room y m i q eq = record {
       is = λ ps rd e x n k.
@@ -105,10 +106,10 @@ module _ (s : List ℕ) (at : ℕ) (words kinds newest : List ℕ) (f : List Flo
           let j : got (num_expr t) m ≡ got x n = ap (λ o. o then (λ x n. got (num_expr x) n)) (sym et) ∙ sym leaf-is ∙ k in
           let ix : x ≡ num_expr t = cc in
           let im : n ≡ m = cc in
-          rw (ix, im, ← ey) (met-number y f top m rd.listed.sizes.2 room q eq);
+          rw (ix, im, ← ey) (met-number y f top m rd.listed.size room q eq);
     }
 
-    pub leaf-none : v ≡ DoubleRead.Not → (q : Evaluated) (g : List Float) → LeafWith s at words kinds newest f top q g
+    pub leaf-none : v ≡ DoubleRead.Not → (q : Evaluated) (g : List Float) → LeafWith s at names f top q g
     unfolding ◌then◌
     leaf-none i q g = record {
       is = λ ps rd e x n k.
@@ -118,9 +119,9 @@ module _ (s : List ℕ) (at : ℕ) (words kinds newest : List ℕ) (f : List Flo
 
 -- ---- an expression
 
-module _ (s : List ℕ) (at depth : ℕ) (e : Ellipsoid) (words kinds newest : List ℕ) (f : List Float) (top : ℕ) (r : Evaluated) (g : List Float) where
-  pub evals-bad : Read.Bad ≡ place (read_expr depth s at) → EvalsWith s at depth e words kinds newest f top r g
+module _ (s : List ℕ) (at depth : ℕ) (e : Ellipsoid) (names : Names) (f : List Float) (top : ℕ) (r : Evaluated) (g : List Float) where
+  pub evals-bad : Read.Bad ≡ place (read_expr depth s at) → EvalsWith s at depth e names f top r g
   evals-bad h = record { is = λ ps rd. record { is = λ x n k. not-read (read_expr depth s at) x n h k } }
 
-  pub evals-leaf : (b : ℕ) → b ≡ get_or s at 0 → (b ≡ 40 → ⊥) → LeafWith s at words kinds newest f top r g → EvalsWith s at depth e words kinds newest f top r g
+  pub evals-leaf : (b : ℕ) → b ≡ get_or s at 0 → (b ≡ 40 → ⊥) → LeafWith s at names f top r g → EvalsWith s at depth e names f top r g
   evals-leaf b eb h l = record { is = λ ps rd. record { is = λ x n k. l.is ps rd e x n (sym (expr-leaf s at b eb depth h) ∙ k) } }

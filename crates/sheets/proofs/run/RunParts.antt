@@ -24,6 +24,7 @@ use Rattle.sheets.specs.Machine.{Out, goes, stops, sticks, eval}
 use Rattle.sheets.specs.code.reader.Reader.{read_expr, closing, rest}
 use Rattle.sheets.specs.code.reader.Views.{closed}
 use Rattle.sheets.specs.code.run.Floats.{float_at}
+use Rattle.sheets.specs.declared.check.names.Names.{Names}
 use Rattle.sheets.specs.code.run.Evaluating.{evaluated, EvalsWith}
 use Rattle.sheets.specs.code.run.Running.{WithReadings, LetWith, stopped_at}
 use Rattle.sheets.proofs.reader.Inverse.{then-read, closing-read}
@@ -85,8 +86,8 @@ module _ (r : Evaluated) (i m : ℕ) (a : RunAnswer) where
 
 -- ---- what is left of a let
 
-module _ (s : List ℕ) (at : ℕ) (e : Ellipsoid) (words kinds newest : List ℕ) (f : List Float) (top : ℕ) (r : Evaluated) (g : List Float) (h : EvalsWith s at 11 e words kinds newest f top r g) where
-  let_by : (q : Evaluated) → ((o : Out Value) (j n : ℕ) → r ≡ evaluated o j → closed s j ≡ Read.At n → q ≡ evaluated o n) → LetWith s at e words kinds newest f top q g
+module _ (s : List ℕ) (at : ℕ) (e : Ellipsoid) (names : Names) (f : List Float) (top : ℕ) (r : Evaluated) (g : List Float) (h : EvalsWith s at 11 e names f top r g) where
+  let_by : (q : Evaluated) → ((o : Out Value) (j n : ℕ) → r ≡ evaluated o j → closed s j ≡ Read.At n → q ≡ evaluated o n) → LetWith s at e names f top q g
   unfolding rest
   let_by q k = record {
     is = λ ps rd w l n er.
@@ -96,11 +97,11 @@ module _ (s : List ℕ) (at : ℕ) (e : Ellipsoid) (words kinds newest : List �
         (x, el, record { is = k (eval x e ps) j n a.is et; lies = a.lies; kept = a.kept });
   }
 
-  pub let-not : NotIs r → LetWith s at e words kinds newest f top r g
+  pub let-not : NotIs r → LetWith s at e names f top r g
   let-not m = let_by r (λ o j n er et. not_at r o j n m er)
 
   module _ (kind end : ℕ) (er : r ≡ Evaluated.Is kind end) (c : Read) (ec : c ≡ closed s end) where
-    let-end : (q : Evaluated) → ((n : ℕ) → closed s end ≡ Read.At n → q ≡ Evaluated.Is kind n) → LetWith s at e words kinds newest f top q g
+    let-end : (q : Evaluated) → ((n : ℕ) → closed s end ≡ Read.At n → q ≡ Evaluated.Is kind n) → LetWith s at e names f top q g
     unfolding evaluated
     let-end q k = let_by q go
       where
@@ -112,8 +113,8 @@ module _ (s : List ℕ) (at : ℕ) (e : Ellipsoid) (words kinds newest : List �
         go (stops fs x) j n e et = let z : ◌≡◌ {A = ℕ} 0 1 = cc in absurd (omega arith)
         go (sticks fs) j n e et = let z : ◌≡◌ {A = ℕ} 0 1 = cc in absurd (omega arith)
 
-    pub let-is : (next : ℕ) → c ≡ Read.At next → LetWith s at e words kinds newest f top (Evaluated.Is kind next) g
+    pub let-is : (next : ℕ) → c ≡ Read.At next → LetWith s at e names f top (Evaluated.Is kind next) g
     let-is next en = let-end _ (λ n et. let i : next ≡ n = cc in ap (Evaluated.Is kind) i)
 
-    pub let-unended : c ≡ Read.Bad → (q : Evaluated) → LetWith s at e words kinds newest f top q g
+    pub let-unended : c ≡ Read.Bad → (q : Evaluated) → LetWith s at e names f top q g
     let-unended en q = let-end q (λ n et. let z : ◌≡◌ {A = ℕ} 0 1 = cc in absurd (omega arith))

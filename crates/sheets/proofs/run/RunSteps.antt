@@ -31,6 +31,7 @@ use Rattle.sheets.specs.Claim.{Unstuck}
 use Rattle.sheets.specs.code.reader.Codes.{code_of}
 use Rattle.sheets.specs.code.reader.Reader.{none as no_got, got, limit, let_word, rest, read_line, formed, read_lines}
 use Rattle.sheets.specs.code.reader.Views.{line_head}
+use Rattle.sheets.specs.declared.check.names.Names.{Names as Given}
 use Rattle.sheets.specs.code.check.Newest as Search
 use Rattle.sheets.specs.code.run.Floats.{Lies}
 use Rattle.sheets.specs.code.run.Known.{Tabled, Ready}
@@ -68,13 +69,13 @@ unfolding total
 sum-none = refl
 
 -- before line 2
-abbrev first : ℕ → Slot → Shown → List Float → List ℕ → Stage
-first at x k f d = record { at = at; line = 2; slots = replicate 96 x; words = replicate 96 0; kinds = replicate 96 0; newest = replicate 512 0; shown = k; floats = f; n = 0; written = 0; out = d }
+abbrev first : ℕ → Given → Slot → Shown → List Float → List ℕ → Stage
+first at names x k f d = record { at = at; line = 2; slots = replicate 96 x; names = names; shown = k; floats = f; n = 0; written = 0; out = d }
 
-pub runs-start : (s : List ℕ) (at : ℕ) → 2 ≡ line_number s at → (e : Ellipsoid) (rs : List Float) (d : List ℕ) (x : Slot) (k : Shown) → k ≡ nothing_kept → (f : List Float) → WithReadings rs (replicate 2940 (of_bits binary64 0)) f
-    → (r : RunAnswer) (out' : List ℕ) → RunsFrom s e rs d (first at x k f d) r out' → Runs s at e rs d r out'
+pub runs-start : (s : List ℕ) (at : ℕ) → 2 ≡ line_number s at → (e : Ellipsoid) (rs : List Float) (d : List ℕ) (names : Given) → names ≡ Search.no_names → (x : Slot) (k : Shown) → k ≡ nothing_kept → (f : List Float) → WithReadings rs (replicate 2940 (of_bits binary64 0)) f
+    → (r : RunAnswer) (out' : List ℕ) → RunsFrom s e rs d (first at names x k f d) r out' → Runs s at e rs d r out'
 unfolding fixes
-runs-start s at two e rs d x k nk f hf r out' h = record {
+runs-start s at two e rs d names none-yet x k nk f hf r out' h = record {
   is = λ size ls el st ee ek en un.
       h.is ls st (record {
         size = size;
@@ -85,10 +86,10 @@ runs-start s at two e rs d x k nk f hf r out' h = record {
         lines = omega arith;
         surface = ee;
         tabled = subst (λ ps. Tabled ps (replicate 96 x) 0 rs) (sym ek) (tabled_start rs _);
-        listed = listed_start _ rs f (length-replicate 96 x) (hf.is zeros).0 (hf.is zeros).1;
+        listed = rw none-yet (listed_start _ rs f (length-replicate 96 x) (hf.is zeros).0 (hf.is zeros).1);
         lets = no_lets;
         rising = rising_none;
-        lined = subst (λ ps. Lined ps (replicate 96 0) 0 no_lets) (sym ek) (lined-start rs _);
+        lined = subst (λ ps. Lined ps names.words 0 no_lets) (sym ek) (lined-start rs _);
         kept = subst (λ es. FixesKept (fixes es) no_lets k.places f 0) (sym en) (subst (λ (k : Shown). FixesKept [] no_lets k.places f 0) (sym nk) (fixes-none no_lets f 0));
         sums = ap (λ (k : Shown). k.sum) nk ∙ sum-none ∙ ap total (sym en);
         count = ap (λ es. length (entry_lines es)) (sym en);
@@ -144,12 +145,12 @@ module _ {s : List ℕ} {e : Ellipsoid} {rs : List Float} {d : List ℕ} {h : St
     -- ---- a let
 
     module _ (code value : ℕ) (says : (w : Word) × IsWord w × (code_of w ≡ code) × (read_line s h.at ≡ limit h.at (rest s (let_word w) value)))
-        (r : Evaluated) (g : List Float) (hl : LetWith s value e h.words h.kinds h.newest h.floats (21 * (h.n + 1)) r g) where
+        (r : Evaluated) (g : List Float) (hl : LetWith s value e h.names h.floats (21 * (h.n + 1)) r g) where
       let-here : (ls : List Line) (st : State) → Now s e rs d h ls st → (y : Line) (next : ℕ) → read_line s h.at ≡ got y next
           → (x : Expr) × (y ≡ let_line says.0 x) × Answers (eval x st.ellipsoid st.scope.known) next (21 * (h.n + 1)) h.floats r g
       let-here ls st now y next el =
           let (er, short) = limit-read h.at (rest s (let_word says.0) value) y next (sym says.3 ∙ el) in
-          let ready : Ready st.scope.known h.words h.kinds h.newest h.floats (21 * (h.n + 1)) = record { slots = h.slots; readings = rs; n = h.n; listed = now.listed; tabled = now.tabled; below = omega arith } in
+          let ready : Ready st.scope.known h.names h.floats (21 * (h.n + 1)) = record { slots = h.slots; readings = rs; n = h.n; listed = now.listed; tabled = now.tabled; below = omega arith } in
           let (x, ey, a) = hl.is st.scope.known ready says.0 y next er in
           (x, ey, subst (λ z. Answers (eval x z st.scope.known) next (21 * (h.n + 1)) h.floats r g) (sym now.surface) a)
 
@@ -160,10 +161,10 @@ module _ {s : List ℕ} {e : Ellipsoid} {rs : List Float} {d : List ℕ} {h : St
           line-stops h.line st sp.line sp.rest (eval x st.ellipsoid st.scope.known) _ (ap (step h.line st) ey) r sp.next an.is m h.written now.count d h.out now.text a ea un)
 
       -- the name's slot is filled
-      pub runs-let : (kind next : ℕ) → r ≡ Evaluated.Is kind next → h.n < 95 → (y : Slot) (words kinds newest : List ℕ) → GivenAt code kind (h.n + 1) g h.words h.kinds h.newest y words kinds newest → (q : RunAnswer) (out' : List ℕ)
-          → RunsFrom s e rs d (record { at = next; line = h.line + 1; slots = set h.slots (h.n + 1) y; words = words; kinds = kinds; newest = newest; shown = h.shown; floats = g; n = h.n + 1; written = h.written; out = h.out }) q out'
+      pub runs-let : (kind next : ℕ) → r ≡ Evaluated.Is kind next → h.n < 95 → (y : Slot) (names : Given) → GivenAt code kind (h.n + 1) g h.names y names → (q : RunAnswer) (out' : List ℕ)
+          → RunsFrom s e rs d (record { at = next; line = h.line + 1; slots = set h.slots (h.n + 1) y; names = names; shown = h.shown; floats = g; n = h.n + 1; written = h.written; out = h.out }) q out'
           → RunsFrom s e rs d h q out'
-      runs-let kind next er few y words kinds newest hg q out' hr = by-line q out' (λ ls st now sp un.
+      runs-let kind next er few y names hg q out' hr = by-line q out' (λ ls st now sp un.
           let (x, ex, an) = let-here ls st now sp.line sp.next sp.stands in
           let (fs, v, eo, ev, lies, ek, en) = answers-is (eval x st.ellipsoid st.scope.known) sp.next (21 * (h.n + 1)) h.floats r g an kind next er in
           let ew : y.word ≡ code = ap (λ (z : Slot). z.word) hg.slot_is in
@@ -179,11 +180,11 @@ module _ {s : List ℕ} {e : Ellipsoid} {rs : List Float} {d : List ℕ} {h : St
             surface = now.surface;
             tabled = subst (λ z. Tabled (given_on h.line says.0 v ∷ st.scope.known) (set h.slots z y) z rs) (omega arith)
                 (tabled-let st.scope.known h.slots h.n rs now.tabled (omega (arith, few, now.listed.slots)) says.0 says.1 v y (ew ∙ sym says.2) eu h.line);
-            listed = rw (hg.words_are, hg.kinds_are) (listed-let h.slots rs h.words h.kinds h.newest h.floats h.n now.listed few y code kind ew (ek ∙ ap (λ z. kind_code (kind_of z)) (sym eu)) (21 * (h.n + 1)) (omega arith) g an.kept (subst (Lies g (21 * (h.n + 1))) (sym eu) lies) newest hg.newest_are);
+            listed = rw hg.names_are (listed-let h.slots rs h.names h.floats h.n now.listed few y code kind ew (ek ∙ ap (λ z. kind_code (kind_of z)) (sym eu)) (21 * (h.n + 1)) (omega arith) g an.kept (subst (Lies g (21 * (h.n + 1))) (sym eu) lies));
             lets = let_at now.lets h.n h.line;
             rising = rising-let now.lets h.n h.line now.rising;
-            lined = subst (λ ws. Lined (given_on h.line says.0 v ∷ st.scope.known) ws (h.n + 1) (let_at now.lets h.n h.line)) (sym (hg.words_are ∙ ap (set h.words (h.n + 1)) (sym says.2))) (subst (λ z. Lined (given_on h.line says.0 v ∷ st.scope.known) (set h.words z (code_of says.0)) z (let_at now.lets h.n h.line)) (omega arith)
-                (lined-let st.scope.known h.words h.n now.lets now.lined (omega (arith, few, now.listed.sizes.0)) says.0 says.1 v h.line));
+            lined = subst (λ ws. Lined (given_on h.line says.0 v ∷ st.scope.known) ws (h.n + 1) (let_at now.lets h.n h.line)) (sym (ap (λ (x : Given). x.words) hg.names_are ∙ ap (set h.names.words (h.n + 1)) (sym says.2))) (subst (λ z. Lined (given_on h.line says.0 v ∷ st.scope.known) (set h.names.words z (code_of says.0)) z (let_at now.lets h.n h.line)) (omega arith)
+                (lined-let st.scope.known h.names.words h.n now.lets now.lined (omega (arith, few, now.listed.from.sizes.0)) says.0 says.1 v h.line));
             kept = fixes-let (fixes st.entries) now.lets h.shown.places h.floats h.n now.kept h.line g an.kept;
             sums = now.sums;
             count = now.count;
@@ -194,7 +195,7 @@ module _ {s : List ℕ} {e : Ellipsoid} {rs : List Float} {d : List ℕ} {h : St
     -- ---- a line that is read whole
 
     module _ (head : LineHead) (eh : head ≡ line_head s h.at) (y : WholeLine) (next : ℕ) (is : head ≡ LineHead.Whole y next) (high : h.line ≤ 96)
-        (c : ℕ) (hc : Names y c) (j : ℕ) (hj : Search.Placed h.words h.newest c j) (x : Slot) (r : Evaluated) (shown : Shown) (out : List ℕ) (hr : LineDoes s y j (get_or h.slots j x).value h.floats h.shown h.out h.written r shown out) where
+        (c : ℕ) (hc : Names y c) (j : ℕ) (hj : Search.Placed h.names c j) (x : Slot) (r : Evaluated) (shown : Shown) (out : List ℕ) (hr : LineDoes s y j (get_or h.slots j x).value h.floats h.shown h.out h.written r shown out) where
       whole_here : (ls : List Line) (st : State) (now : Now s e rs d h ls st) (l : Line) (m : ℕ) → read_line s h.at ≡ got l m → (next ≡ m) × Comes h now.lets d st l r shown out
       whole_here ls st now l m el =
           let (k, t, ek) = head-says s h.at head eh _ is in
@@ -209,7 +210,7 @@ module _ {s : List ℕ} {e : Ellipsoid} {rs : List Float} {d : List ℕ} {h : St
 
       -- the text may grow by a line
       pub runs-whole : 2 ≤ h.line → (kind count : ℕ) → r ≡ Evaluated.Is kind count → (q : RunAnswer) (out' : List ℕ)
-          → RunsFrom s e rs d (record { at = next; line = h.line + 1; slots = h.slots; words = h.words; kinds = h.kinds; newest = h.newest; shown = shown; floats = h.floats; n = h.n; written = count; out = out }) q out'
+          → RunsFrom s e rs d (record { at = next; line = h.line + 1; slots = h.slots; names = h.names; shown = shown; floats = h.floats; n = h.n; written = count; out = out }) q out'
           → RunsFrom s e rs d h q out'
       runs-whole low kind count er q out' on = by-line q out' (λ ls st now sp un.
           let (en, comes) = whole_here ls st now sp.line sp.next sp.stands in
@@ -226,7 +227,7 @@ module _ {s : List ℕ} {e : Ellipsoid} {rs : List Float} {d : List ℕ} {h : St
             listed = now.listed;
             lets = now.lets;
             rising = rising-line now.lets h.n h.line now.rising;
-            lined = subst (λ ps. Lined ps h.words h.n now.lets) (sym b.known) now.lined;
+            lined = subst (λ ps. Lined ps h.names.words h.n now.lets) (sym b.known) now.lined;
             kept = b.kept;
             sums = b.sums;
             count = b.counted;

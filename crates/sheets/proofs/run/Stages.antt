@@ -6,6 +6,7 @@ use lib.ListN.{length}
 use lib.Ieee.{Float}
 use Rattle.frames.specs.declared.Ellipsoid.{Ellipsoid}
 use Rattle.sheets.specs.declared.rows.value.Slot.{Slot}
+use Rattle.sheets.specs.declared.check.names.Names.{Names}
 use Rattle.sheets.specs.declared.run.shown.Shown.{Shown}
 use Rattle.sheets.specs.Trees.{Line}
 use Rattle.sheets.specs.LineNumbers.{line_number}
@@ -22,9 +23,7 @@ pub record Stage : Type 0 where
   pub at : ℕ
   pub line : ℕ
   pub slots : List Slot
-  pub words : List ℕ
-  pub kinds : List ℕ
-  pub newest : List ℕ
+  pub names : Names
   pub shown : Shown
   pub floats : List Float
   pub n : ℕ
@@ -41,10 +40,10 @@ pub record Now (s : List ℕ) (e : Ellipsoid) (rs : List Float) (d : List ℕ) (
   pub lines : h.line + left ≡ 97
   pub surface : st.ellipsoid ≡ e
   pub tabled : Tabled st.scope.known h.slots h.n rs
-  pub listed : Listed h.slots rs h.words h.kinds h.newest h.floats h.n
+  pub listed : Listed h.slots rs h.names h.floats h.n
   pub lets : ℕ → ℕ
   pub rising : Rising lets h.n h.line
-  pub lined : Lined st.scope.known h.words h.n lets
+  pub lined : Lined st.scope.known h.names.words h.n lets
   pub kept : FixesKept (fixes st.entries) lets h.shown.places h.floats h.n
   pub sums : h.shown.sum ≡ total st.entries
   pub count : h.written ≡ length (entry_lines st.entries)

@@ -111,7 +111,7 @@ module _ {s : List ℕ} {e : Ellipsoid} {rs : List Float} {d : List ℕ} {h : St
       let g : Given Value = given_on (line_of_let w st.scope.known) w v in
       entry-comes (show_line w) (entry_on w v) _ (ap (λ o. thenᵒ (meet o) (λ y. goes [] (write st (entry_on w y)))) eo) refl s name.from name.end ew sh.0 (λ inside.
       let (ej, et) = subst (λ b. KeptIf b v j h.shown shown) inside sh.1 in (
-        subst (λ js. FixesKept (fixes (st.entries ++ (entry_on w v ∷ []))) now.lets js h.floats h.n) (sym ej) (fixes-show st.entries now.lets h.shown.places h.floats h.n now.kept h.line g j (omega (arith, now.listed.few)) (kept v refl)),
+        subst (λ js. FixesKept (fixes (st.entries ++ (entry_on w v ∷ []))) now.lets js h.floats h.n) (sym ej) (fixes-show st.entries now.lets h.shown.places h.floats h.n now.kept h.line g j (omega (arith, now.listed.from.few)) (kept v refl)),
         et ∙ ap (λ t. plus t (held 𝐥 v)) now.sums ∙ sym (total-show st.entries h.line g),
       ))
 
@@ -125,7 +125,7 @@ module _ {s : List ℕ} {e : Ellipsoid} {rs : List Float} {d : List ℕ} {h : St
 
   apart-comes : (q : Unsigned) → r ≡ apart_answer (num_value (signless q)) h.floats h.shown.places h.written → shown ≡ h.shown → out ≡ h.out → Comes-to (apart_line q)
   unfolding step apart_answer evaluated in_limit
-  apart-comes q er ek eo = go (near (num_value (signless q))) refl (stand_apart (num_value (signless q)) (fixes st.entries)) refl (er ∙ ap (λ b. when (near (num_value (signless q))) (when b (Evaluated.Is 254 h.written) (Evaluated.Stops 9)) (Evaluated.Stops 7)) (stand-is (num_value (signless q)) h.floats h.shown.places (fixes st.entries) now.lets h.n h.line now.kept now.rising now.listed.few))
+  apart-comes q er ek eo = go (near (num_value (signless q))) refl (stand_apart (num_value (signless q)) (fixes st.entries)) refl (er ∙ ap (λ b. when (near (num_value (signless q))) (when b (Evaluated.Is 254 h.written) (Evaluated.Stops 9)) (Evaluated.Stops 7)) (stand-is (num_value (signless q)) h.floats h.shown.places (fixes st.entries) now.lets h.n h.line now.kept now.rising now.listed.from.few))
     where
       never : {k m : ℕ} {c : ℕ} → r ≡ Evaluated.Stops c → (C : Type 0) → r ≡ Evaluated.Is k m → C
       never e C i = let z : ◌≡◌ {A = ℕ} 0 1 = cc in absurd (omega arith)
@@ -158,19 +158,19 @@ module _ {s : List ℕ} {e : Ellipsoid} {rs : List Float} {d : List ℕ} {h : St
       }
 
   -- by its form: the line l stands there, its word at the place j among the names
-  pub whole-comes : (y : WholeLine) (l : Line) → WholeIn s y l → (c : ℕ) → Names y c → (j : ℕ) → Search.Placed h.words h.newest c j → (x : Slot)
+  pub whole-comes : (y : WholeLine) (l : Line) → WholeIn s y l → (c : ℕ) → Names y c → (j : ℕ) → Search.Placed h.names c j → (x : Slot)
       → LineDoes s y j (get_or h.slots j x).value h.floats h.shown h.out h.written r shown out → Comes-to l
   unfolding Does
   whole-comes (WholeLine.Show name) l (w, ew, ec, el) c hc j pj x hr =
-      let hj = subst (λ k. Search.Placed h.words h.newest k j) (hc.is name refl) pj in
-      let known = now.tabled.is w (word-is s name.from w name.end ew) ∙ ap (word_found h.slots rs h.n) ec ∙ sym (listed_at h.slots rs h.words h.kinds h.newest h.floats h.n now.listed name.code j hj x) in
-      let few = placed-few h.slots rs h.words h.kinds h.newest h.floats h.n now.listed name.code j hj in
-      let place = place_is h.words h.n h.newest now.listed.from now.listed.few name.code j hj in
-      let line = now.lined.is w (word-is s name.from w name.end ew) ∙ ap (λ c. now.lets (place_from h.words h.n c)) ec ∙ sym (ap now.lets place) in
+      let hj = subst (λ k. Search.Placed h.names k j) (hc.is name refl) pj in
+      let known = now.tabled.is w (word-is s name.from w name.end ew) ∙ ap (word_found h.slots rs h.n) ec ∙ sym (listed_at h.slots rs h.names h.floats h.n now.listed name.code j hj x) in
+      let few = placed-few h.slots rs h.names h.floats h.n now.listed name.code j hj in
+      let place = place_is h.names h.n now.listed.from name.code j hj in
+      let line = now.lined.is w (word-is s name.from w name.end ew) ∙ ap (λ c. now.lets (place_from h.names.words h.n c)) ec ∙ sym (ap now.lets place) in
       subst Comes-to (sym el) (show-comes name w ew j few _ known (λ v ev p ep. record {
         few = few;
         line = sym line;
-        lies = found-position h.slots rs h.words h.kinds h.newest h.floats h.n now.listed name.code j hj x v ev p (held-position v p ep);
+        lies = found-position h.slots rs h.names h.floats h.n now.listed name.code j hj x v ev p (held-position v p ep);
       }) hr.is.is)
   whole-comes WholeLine.Total l el c hc j pj x hr = subst Comes-to (sym el) (total-comes hr.is.0 hr.is.1)
   whole-comes (WholeLine.Apart x) l (q, ex, el) c hc j pj y hr = subst Comes-to (sym el) (apart-comes q (hr.is.0 ∙ ap (λ x. apart_answer x h.floats h.shown.places h.written) (sym ex)) hr.is.1 hr.is.2)

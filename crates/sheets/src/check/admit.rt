@@ -1,5 +1,5 @@
 // Refusals 3 to 6 over a whole sheet, in checking order: its form, its ellipsoid, and then names and kinds, line by line.
-// The lists `words`, `codes` and `newest` are those of kind_walk.rt.
+// `names` are those of kind_walk.rt.
 ghost use Rattle.std.specs.Prelude.{◌≡◌, ℕ, ◌-◌};
 ghost use Rattle.sheets.specs.code.reader.Reader.{got, let_word, rest, read_line, read_lines, read_sheet};
 ghost use Rattle.sheets.specs.code.reader.Views.{lines_form};
@@ -10,8 +10,8 @@ ghost use Rattle.sheets.specs.declared.check.admit.Outcome.{Outcome};
 ghost use Rattle.sheets.specs.code.check.Walking.{ForKnown, BarredWord, ForScope, LineHas, WordHas, WholeHas, short_kind, LinesWalk, unless_bad, Admits};
 
 use crate::check::first_line::{FirstLine, first_line};
-use crate::check::kind_walk::{KindRead, find_kind, kind_at};
-use crate::check::newest::put_newest;
+use crate::check::kind_walk::{KindRead, kind_at};
+use crate::check::names::Names;
 use crate::reader::expr::Read;
 use crate::reader::form::{FormRead, form_from};
 use crate::reader::lines::{LineHead, WholeLine, closing, is_short, line_head};
@@ -40,27 +40,21 @@ pub struct Admission {
 }
 
 // Whether the word with this code cannot be given: it is an operator's, or known.
-fn is_barred(words: &[u64; 96], codes: &[u8; 96], newest: &[u8; 512], code: u64) -> bool
-    ensures { ForKnown words.now codes.now newest.now (λ ps. BarredWord code ps result) }
+fn is_barred(names: &Names, code: u64) -> bool
+    ensures { ForKnown names.now (λ ps. BarredWord code ps result) }
 {
     if opens(code) {
         return true;
     }
-    let kind = find_kind(words, codes, newest, code);
+    let kind = names.kind(code);
     if kind == 255 { false } else { true }
 }
 
 // A line that names the word with this code, where the next line stands at `next`: the word's kind, or refusal 5 where it is unknown.
-fn known_kind(
-    code: u64,
-    next: usize,
-    words: &[u64; 96],
-    codes: &[u8; 96],
-    newest: &[u8; 512],
-) -> LineKind
-    ensures { ForScope words.now codes.now newest.now (λ i c. WordHas code (λ w. got (show_line w) next) i c result) }
+fn known_kind(code: u64, next: usize, names: &Names) -> LineKind
+    ensures { ForScope names.now (λ i c. WordHas code (λ w. got (show_line w) next) i c result) }
 {
-    let kind = find_kind(words, codes, newest, code);
+    let kind = names.kind(code);
     if kind == 255 {
         return LineKind::Refused(5);
     }
@@ -68,38 +62,25 @@ fn known_kind(
 }
 
 // A line that is read whole, where the next line stands at `next`. One that names no word has the code 0 for it.
-fn whole_kind(
-    line: WholeLine,
-    next: usize,
-    words: &[u64; 96],
-    codes: &[u8; 96],
-    newest: &[u8; 512],
-) -> LineKind
-    ensures { ForScope words.now codes.now newest.now (λ i c. WholeHas line next i c result) }
+fn whole_kind(line: WholeLine, next: usize, names: &Names) -> LineKind
+    ensures { ForScope names.now (λ i c. WholeHas line next i c result) }
 {
     match line {
-        WholeLine::Show(name) => known_kind(name.code, next, words, codes, newest),
+        WholeLine::Show(name) => known_kind(name.code, next, names),
         WholeLine::Total => LineKind::Is(0, 2, next),
         WholeLine::Apart(_) => LineKind::Is(0, 254, next),
     }
 }
 
 // A let of the word with this code, from the place of its expression, which is read before the name is given.
-fn let_kind(
-    s: &[u8],
-    code: u64,
-    at: usize,
-    words: &[u64; 96],
-    codes: &[u8; 96],
-    newest: &[u8; 512],
-) -> LineKind
-    ensures { ForScope words.now codes.now newest.now (λ i c. WordHas code (λ w. rest s.now (let_word w) at) i c result) }
+fn let_kind(s: &[u8], code: u64, at: usize, names: &Names) -> LineKind
+    ensures { ForScope names.now (λ i c. WordHas code (λ w. rest s.now (let_word w) at) i c result) }
 {
-    let r = kind_at(s, at, 11, words, codes, newest);
+    let r = kind_at(s, at, 11, names);
     match r {
         KindRead::Refused(number) => LineKind::Refused(number),
         KindRead::Is(kind, end) => {
-            if is_barred(words, codes, newest, code) {
+            if is_barred(names, code) {
                 return LineKind::Refused(5);
             }
             let c = closing(s, end);
@@ -127,24 +108,18 @@ fn short_kind(at: usize, line: LineKind) -> LineKind
 }
 
 // The line at a place. Its expression is read once: the line ends behind it.
-fn line_kind(
-    s: &[u8],
-    at: usize,
-    words: &[u64; 96],
-    codes: &[u8; 96],
-    newest: &[u8; 512],
-) -> LineKind
-    ensures { ForScope words.now codes.now newest.now (λ i c. LineHas (read_line s.now at) i c result) }
+fn line_kind(s: &[u8], at: usize, names: &Names) -> LineKind
+    ensures { ForScope names.now (λ i c. LineHas (read_line s.now at) i c result) }
 {
     let h = line_head(s, at);
     match h {
         LineHead::Bad => LineKind::Refused(3),
         LineHead::Let(name, value) => {
-            let r = let_kind(s, name.code, value, words, codes, newest);
+            let r = let_kind(s, name.code, value, names);
             short_kind(at, r)
         }
         LineHead::Whole(line, next) => {
-            let r = whole_kind(line, next, words, codes, newest);
+            let r = whole_kind(line, next, names);
             short_kind(at, r)
         }
     }
@@ -182,16 +157,14 @@ fn walk_lines(sheet: &[u8], start: usize, e: Ellipsoid) -> Admission
 {
     let size = sheet.len();
     let s = &sheet[..size];
-    let mut words: [u64; 96] = [0; 96];
-    let mut codes: [u8; 96] = [255; 96];
-    let mut newest: [u8; 512] = [0; 512];
+    let mut names = Names::new();
     let mut passed: usize = 0;
     let mut at = start;
     while at < s.len() {
         if 95 <= passed {
             return refused(3, 97);
         }
-        let r = line_kind(s, at, &words, &codes, &newest);
+        let r = line_kind(s, at, &names);
         match r {
             LineKind::Refused(number) => {
                 let line = passed + 2;
@@ -202,15 +175,16 @@ fn walk_lines(sheet: &[u8], start: usize, e: Ellipsoid) -> Admission
             }
             LineKind::Is(code, kind, next) => {
                 passed += 1;
-                words[passed] = code;
-                codes[passed] = kind;
-                put_newest(&mut newest, code, passed as u8);
+                names.give(code, kind, passed);
                 at = next;
             }
         }
     }
     let outcome = Outcome::Passes(passed + 1, e, start);
-    Admission { outcome, codes }
+    Admission {
+        outcome,
+        codes: names.kinds,
+    }
 }
 
 // Refusals 3 to 6 of a whole sheet: the form of every line comes before the range of line 1, and that before names and kinds. A sheet that passes is read once.

@@ -1,12 +1,12 @@
 // The evaluator: it calls itself with the bracket depth left falling. A value is tested where it is met, a bracket's after its row.
-// Values lie as floats: the readings from place 0 on, the value of the name at place j of `words` from 21 j on, and above the names, from `top` on, what is being worked out.
+// Values lie as floats: the readings from place 0 on, the value of the name at place j of `names` from 21 j on, and above the names, from `top` on, what is being worked out.
 // An expression's value is laid from its `top` on, and so are a bracket's arguments, each with room for a frame, 21 floats.
 // A bracket's fifth argument lies 84 places above its first, so that an expression of depth d takes 84 d + 21 floats, and one of depth 11 takes 945; 2940 is that above the places of 95 names. A bracket's five arguments take 105.
 ghost use Rattle.std.specs.Prelude.{◌+◌, ◌*◌, ◌≤◌};
 ghost use Rattle.sheets.specs.code.run.Evaluating.{KnownWith, LeafWith, EvalsWith, BracketWith};
 
 use crate::Evaluated;
-use crate::check::newest::word_place;
+use crate::check::names::Names;
 use crate::reader::bytes::{WordRead, byte, word};
 use crate::reader::num::{DoubleRead, double};
 use crate::run::apply::apply;
@@ -16,19 +16,11 @@ use crate::run::readings::reading_index;
 use frames::Ellipsoid;
 
 // What the word with this code stands for, laid at `top`; `end` is the place after the word.
-fn known(
-    code: u64,
-    end: usize,
-    words: &[u64; 96],
-    kinds: &[u8; 96],
-    newest: &[u8; 512],
-    floats: &mut [f64; 2940],
-    top: usize,
-) -> Evaluated
+fn known(code: u64, end: usize, names: &Names, floats: &mut [f64; 2940], top: usize) -> Evaluated
     requires { top + 21 ≤ 2940 }
-    ensures { KnownWith code end words.now kinds.now newest.now floats.old top result floats.new }
+    ensures { KnownWith code end names.now floats.old top result floats.new }
 {
-    let j = word_place(words, newest, code);
+    let j = names.place(code);
     if j == 0 {
         let i = reading_index(code);
         if 16 <= i {
@@ -37,27 +29,19 @@ fn known(
         floats[top] = floats[i];
         return tested(0, floats, top, end);
     }
-    let kind = kinds[j];
+    let kind = names.kinds[j];
     copy_floats(floats, 21 * j, top);
     tested(kind, floats, top, end)
 }
 
 // A word or a NUM.
-fn leaf(
-    s: &[u8],
-    at: usize,
-    words: &[u64; 96],
-    kinds: &[u8; 96],
-    newest: &[u8; 512],
-    floats: &mut [f64; 2940],
-    top: usize,
-) -> Evaluated
+fn leaf(s: &[u8], at: usize, names: &Names, floats: &mut [f64; 2940], top: usize) -> Evaluated
     requires { top + 21 ≤ 2940 }
-    ensures { LeafWith s.now at words.now kinds.now newest.now floats.old top result floats.new }
+    ensures { LeafWith s.now at names.now floats.old top result floats.new }
 {
     let w = word(s, at);
     match w {
-        WordRead::Is(code, end) => known(code, end, words, kinds, newest, floats, top),
+        WordRead::Is(code, end) => known(code, end, names, floats, top),
         WordRead::Not => {
             let q = double(s, at);
             match q {
@@ -78,14 +62,12 @@ pub fn eval(
     at: usize,
     depth: usize,
     e: Ellipsoid,
-    words: &[u64; 96],
-    kinds: &[u8; 96],
-    newest: &[u8; 512],
+    names: &Names,
     floats: &mut [f64; 2940],
     top: usize,
 ) -> Evaluated
     requires { top + 84 * depth + 21 ≤ 2940 }
-    ensures { EvalsWith s.now at depth e words.now kinds.now newest.now floats.old top result floats.new }
+    ensures { EvalsWith s.now at depth e names.now floats.old top result floats.new }
 {
     let b = byte(s, at);
     if b == 40 {
@@ -96,20 +78,9 @@ pub fn eval(
         let WordRead::Is(code, start) = w else {
             return Evaluated::Sticks;
         };
-        return bracket(
-            s,
-            start,
-            depth - 1,
-            e,
-            code,
-            words,
-            kinds,
-            newest,
-            floats,
-            top,
-        );
+        return bracket(s, start, depth - 1, e, code, names, floats, top);
     }
-    leaf(s, at, words, kinds, newest, floats, top)
+    leaf(s, at, names, floats, top)
 }
 
 // The bracket of the word with this code, from the place after its word: its arguments, the closing bracket, and then its row.
@@ -120,14 +91,12 @@ pub fn bracket(
     depth: usize,
     e: Ellipsoid,
     code: u64,
-    words: &[u64; 96],
-    kinds: &[u8; 96],
-    newest: &[u8; 512],
+    names: &Names,
     floats: &mut [f64; 2940],
     top: usize,
 ) -> Evaluated
     requires { top + 84 * depth + 105 ≤ 2940 }
-    ensures { BracketWith s.now at depth 5 e code words.now kinds.now newest.now 0 floats.old top result floats.new }
+    ensures { BracketWith s.now at depth 5 e code names.now 0 floats.old top result floats.new }
 {
     let mut i = at;
     let mut left: usize = 5;
@@ -138,7 +107,7 @@ pub fn bracket(
             return Evaluated::Sticks;
         }
         let room = top + 21 * (5 - left);
-        let r = eval(s, i + 1, depth, e, words, kinds, newest, floats, room);
+        let r = eval(s, i + 1, depth, e, names, floats, room);
         match r {
             Evaluated::Sticks => {
                 return Evaluated::Sticks;

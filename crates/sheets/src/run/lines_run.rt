@@ -5,7 +5,7 @@ ghost use Rattle.sheets.specs.code.run.Running.{LetWith, GivenAt, stopped_at, Ru
 
 use crate::Evaluated;
 use crate::answers::{RunAnswer, run_answer};
-use crate::check::newest::{put_newest, word_place};
+use crate::check::names::Names;
 use crate::reader::expr::Read;
 use crate::reader::lines::{LineHead, NameAt, closing, line_head};
 use crate::rows::value::{Slot, empty_slot};
@@ -21,16 +21,14 @@ fn let_value(
     s: &[u8],
     at: usize,
     e: Ellipsoid,
-    words: &[u64; 96],
-    kinds: &[u8; 96],
-    newest: &[u8; 512],
+    names: &Names,
     floats: &mut [f64; 2940],
     top: usize,
 ) -> Evaluated
     requires { top + 945 ≤ 2940 }
-    ensures { LetWith s.now at e words.now kinds.now newest.now floats.old top result floats.new }
+    ensures { LetWith s.now at e names.now floats.old top result floats.new }
 {
-    let r = eval(s, at, 11, e, words, kinds, newest, floats, top);
+    let r = eval(s, at, 11, e, names, floats, top);
     let Evaluated::Is(kind, end) = r else {
         return r;
     };
@@ -41,23 +39,13 @@ fn let_value(
     }
 }
 
-// A name is given at a place, where its value lies: the lists get its word, its kind and its newest place, and its slot is answered.
-fn give(
-    name: NameAt,
-    kind: u8,
-    place: usize,
-    floats: &[f64; 2940],
-    words: &mut [u64; 96],
-    kinds: &mut [u8; 96],
-    newest: &mut [u8; 512],
-) -> Slot
+// A name is given at a place, where its value lies: `names` get its word and its kind, and its slot is answered.
+fn give(name: NameAt, kind: u8, place: usize, floats: &[f64; 2940], names: &mut Names) -> Slot
     requires { place ≤ 95 }
-    ensures { GivenAt name.code kind place floats.now words.old kinds.old newest.old result words.new kinds.new newest.new }
+    ensures { GivenAt name.code kind place floats.now names.old result names.new }
 {
     let word = name.code;
-    words[place] = word;
-    kinds[place] = kind;
-    put_newest(newest, word, place as u8);
+    names.give(word, kind, place);
     let value = value_at(kind, floats, 21 * place);
     Slot { word, value }
 }
@@ -73,16 +61,14 @@ fn stopped(r: Evaluated, line: usize, written: usize) -> RunAnswer
 }
 
 // The lines from line 2, which stands at `from`. The number of the line at `at` is `line` + 1 before its turn and `line` in it, stepped at each LF.
-// The table of names stays here; slot 0 stays empty. `words`, `kinds` and `floats` have its words, kinds and values, each at its slot's place, for the evaluator; `newest` is that of newest.rt.
+// The table of names stays here; slot 0 stays empty. `names` have its words and kinds and `floats` its values, each at its slot's place, for the evaluator.
 // A place kept in `shown` is never given to another name: so the position stays where it lies among the floats.
 pub fn run_lines(s: &[u8], from: usize, e: Ellipsoid, readings: &[f64], out: &mut [u8]) -> RunAnswer
     requires { 2 ≡ line_number s.now from }
     ensures { Runs s.now from e readings.now out.old result out.new }
 {
     let mut t = [empty_slot(); 96];
-    let mut words = [0u64; 96];
-    let mut kinds = [0u8; 96];
-    let mut newest = [0u8; 512];
+    let mut names = Names::new();
     let mut shown = Shown::new();
     let mut floats = [0.0; 2940];
     put_readings(readings, &mut floats);
@@ -96,15 +82,15 @@ pub fn run_lines(s: &[u8], from: usize, e: Ellipsoid, readings: &[f64], out: &mu
             LineHead::Bad => return run_answer(0, line, written),
             LineHead::Let(name, value) => {
                 n += 1;
-                let r = let_value(s, value, e, &words, &kinds, &newest, &mut floats, 21 * n);
+                let r = let_value(s, value, e, &names, &mut floats, 21 * n);
                 let Evaluated::Is(kind, next) = r else {
                     return stopped(r, line, written);
                 };
-                t[n] = give(name, kind, n, &floats, &mut words, &mut kinds, &mut newest);
+                t[n] = give(name, kind, n, &floats, &mut names);
                 at = next;
             }
             LineHead::Whole(w, next) => {
-                let j = word_place(&words, &newest, named(w));
+                let j = names.place(named(w));
                 match whole_line(s, w, j, t[j], &floats, &mut shown, out, written) {
                     Evaluated::Is(_, count) => written = count,
                     r => return stopped(r, line, written),

@@ -13,6 +13,7 @@ use Rattle.sheets.specs.Kinds.{Kind, kind_code}
 use Rattle.sheets.specs.Table.{when}
 use Rattle.sheets.specs.Names.{Known, lookup, barred, reading_words}
 use Rattle.sheets.specs.code.check.Newest.{search_from, Newest}
+use Rattle.sheets.specs.declared.check.names.Names.{Names}
 use Rattle.sheets.specs.code.rows.KindCodes.{key_from, kind_or_255}
 use Rattle.sheets.specs.Scopes.{Scope}
 use Rattle.sheets.specs.Refusals.{Refusal, form, fault, refusal_number, Checked, fine, bad}
@@ -27,31 +28,30 @@ use Rattle.sheets.specs.declared.check.admit.LineKind.{LineKind}
 use Rattle.sheets.specs.declared.check.admit.Outcome.{Outcome}
 use Rattle.sheets.specs.declared.check.admit.Admission.{Admission}
 
--- ---- the words of the lines passed: line i + 1 has the word with the code at the place i of `words`, of the kind with the code there of `codes`
+-- ---- the words of the lines passed: line i + 1 has the word with the code at the place i, of the kind with the code there
 
 -- the kind code of a reading by its word's code; 255 for none
 unfoldable pub reading_kind : ℕ → ℕ
 reading_kind c = when (has_key (map code_of reading_words) c) 0 255
 
 -- the kind code of the word with this code by the lines after line 1, the newest first, and then the readings; 255 where it is unknown
-unfoldable pub kind_from : List ℕ → List ℕ → ℕ → ℕ → ℕ
-kind_from words codes zero c = reading_kind c
-kind_from words codes (suc n) c = when (eqb (get_or words (suc n) 0) c) (get_or codes (suc n) 0) (kind_from words codes n c)
+unfoldable pub kind_from : Names → ℕ → ℕ → ℕ
+kind_from names zero c = reading_kind c
+kind_from names (suc n) c = when (eqb (get_or names.words (suc n) 0) c) (get_or names.kinds (suc n) 0) (kind_from names n c)
 
-unfoldable pub kind_found : List ℕ → List ℕ → List ℕ → ℕ → ℕ
-kind_found words codes newest c = kind_from words codes (search_from newest c) c
+unfoldable pub kind_found : Names → ℕ → ℕ
+kind_found names c = kind_from names (search_from names c) c
 
 -- so many lines passed stand for the known words ps
-pub record Stands (words codes newest : List ℕ) (passed : ℕ) (ps : Known Kind) : Type 0 where
-  pub few : passed ≤ 95
-  pub from : Newest words passed newest
-  pub is : (w : Word) → IsWord w → kind_from words codes passed (code_of w) ≡ kind_or_255 (lookup w ps)
+pub record Stands (names : Names) (passed : ℕ) (ps : Known Kind) : Type 0 where
+  pub from : Newest names passed
+  pub is : (w : Word) → IsWord w → kind_from names passed (code_of w) ≡ kind_or_255 (lookup w ps)
 
-abbrev pub Standing : List ℕ → List ℕ → List ℕ → Known Kind → Type 0
-Standing words codes newest ps = (passed : ℕ) × Stands words codes newest passed ps
+abbrev pub Standing : Names → Known Kind → Type 0
+Standing names ps = (passed : ℕ) × Stands names passed ps
 
-pub record ForKnown (words codes newest : List ℕ) (P : Known Kind → Type 0) : Type 0 where
-  pub is : (ps : Known Kind) → Standing words codes newest ps → P ps
+pub record ForKnown (names : Names) (P : Known Kind → Type 0) : Type 0 where
+  pub is : (ps : Known Kind) → Standing names ps → P ps
 
 -- ---- expressions
 
@@ -89,8 +89,8 @@ line_word total_line = []
 line_word (apart_line q) = []
 
 -- the lines passed stand for the words that the scope knows; the line is line i, whatever i is
-pub record ForScope (words codes newest : List ℕ) (P : ℕ → Scope Kind → Type 0) : Type 0 where
-  pub is : (i : ℕ) (c : Scope Kind) → Standing words codes newest c.known → P i c
+pub record ForScope (names : Names) (P : ℕ → Scope Kind → Type 0) : Type 0 where
+  pub is : (i : ℕ) (c : Scope Kind) → Standing names c.known → P i c
 
 -- the code of the line's word, its kind code and the place of the next line, or the refusal's number
 unfoldable pub line_said : Word → Checked (ℕ × Scope Kind) → ℕ → LineKind

@@ -25,6 +25,7 @@ use Rattle.sheets.specs.code.rows.Applied.{vector_word, aer_word, axis_word}
 use Rattle.sheets.specs.code.rows.KindCodes.{kind_at, key_of, Missed}
 use Rattle.sheets.specs.code.run.Floats.{value_at, values_at, Lies, KeptBelow}
 use Rattle.sheets.specs.code.run.Known.{Ready}
+use Rattle.sheets.specs.declared.check.names.Names.{Names}
 
 -- the code of the value's kind and the place after the expression, or the refusal that stops the machine
 unfoldable pub evaluated : Out Value → ℕ → Evaluated
@@ -106,19 +107,19 @@ pub record Evals (s : List ℕ) (at depth : ℕ) (e : Ellipsoid) (ps : Known Val
 pub record Bracket (s : List ℕ) (at depth left : ℕ) (e : Ellipsoid) (w : Word) (ps : Known Value) (vs : List Value) (f : List Float) (top : ℕ) (r : Evaluated) (f' : List Float) : Type 0 where
   pub is : (xs : Exprs) (n : ℕ) → read_args (read_expr depth s) left s at ≡ got xs n → Answers (then (evals xs e ps) (λ us. apply_row e (find table w (vs ++ us)))) n top f r f'
 
--- ---- over the lists that are lent: for the known words that they stand for
+-- ---- over what is lent: for the known words that it stands for
 
-pub record EvalsWith (s : List ℕ) (at depth : ℕ) (e : Ellipsoid) (words kinds newest : List ℕ) (f : List Float) (top : ℕ) (r : Evaluated) (f' : List Float) : Type 0 where
-  pub is : (ps : Known Value) → Ready ps words kinds newest f top → Evals s at depth e ps f top r f'
+pub record EvalsWith (s : List ℕ) (at depth : ℕ) (e : Ellipsoid) (names : Names) (f : List Float) (top : ℕ) (r : Evaluated) (f' : List Float) : Type 0 where
+  pub is : (ps : Known Value) → Ready ps names f top → Evals s at depth e ps f top r f'
 
 -- a known word
-pub record KnownWith (code n : ℕ) (words kinds newest : List ℕ) (f : List Float) (top : ℕ) (r : Evaluated) (f' : List Float) : Type 0 where
-  pub is : (ps : Known Value) → Ready ps words kinds newest f top → (w : Word) → IsWord w → code ≡ code_of w → Answers (meet (lookup w ps)) n top f r f'
+pub record KnownWith (code n : ℕ) (names : Names) (f : List Float) (top : ℕ) (r : Evaluated) (f' : List Float) : Type 0 where
+  pub is : (ps : Known Value) → Ready ps names f top → (w : Word) → IsWord w → code ≡ code_of w → Answers (meet (lookup w ps)) n top f r f'
 
 -- a word or a NUM
-pub record LeafWith (s : List ℕ) (at : ℕ) (words kinds newest : List ℕ) (f : List Float) (top : ℕ) (r : Evaluated) (f' : List Float) : Type 0 where
-  pub is : (ps : Known Value) → Ready ps words kinds newest f top → (e : Ellipsoid) (x : Expr) (n : ℕ) → read_leaf s at ≡ got x n → Answers (eval x e ps) n top f r f'
+pub record LeafWith (s : List ℕ) (at : ℕ) (names : Names) (f : List Float) (top : ℕ) (r : Evaluated) (f' : List Float) : Type 0 where
+  pub is : (ps : Known Value) → Ready ps names f top → (e : Ellipsoid) (x : Expr) (n : ℕ) → read_leaf s at ≡ got x n → Answers (eval x e ps) n top f r f'
 
 -- a bracket whose word has this code, after values of the kinds that made the key
-pub record BracketWith (s : List ℕ) (at depth left : ℕ) (e : Ellipsoid) (code : ℕ) (words kinds newest : List ℕ) (key : ℕ) (f : List Float) (top : ℕ) (r : Evaluated) (f' : List Float) : Type 0 where
-  pub is : (ps : Known Value) → Ready ps words kinds newest f top → (ks : List Kind) → key_of ks ≡ key → length ks + left ≡ 5 → (w : Word) → IsWord w → code ≡ code_of w → Bracket s at depth left e w ps (values_at ks f top) f top r f'
+pub record BracketWith (s : List ℕ) (at depth left : ℕ) (e : Ellipsoid) (code : ℕ) (names : Names) (key : ℕ) (f : List Float) (top : ℕ) (r : Evaluated) (f' : List Float) : Type 0 where
+  pub is : (ps : Known Value) → Ready ps names f top → (ks : List Kind) → key_of ks ≡ key → length ks + left ≡ 5 → (w : Word) → IsWord w → code ≡ code_of w → Bracket s at depth left e w ps (values_at ks f top) f top r f'

@@ -1,4 +1,4 @@
--- What a word stands for by the table of names and the readings, and the lists that the evaluator is lent for the table.
+-- What a word stands for by the table of names and the readings, and what the evaluator is lent for the table.
 -- No part of what must be believed: they only tie the code to the machine.
 use Rattle.std.specs.Prelude.{ℕ, zero, suc, ◌+◌, ◌*◌, ◌<◌, ◌≤◌, ◌≡◌, List, [], ◌∷◌, map, eqb, leb, length, get_or, Float}
 use Rattle.std.proofs.Math.Option.{Option, none, some}
@@ -12,6 +12,7 @@ use Rattle.sheets.specs.Kinds.{kind_of, kind_code}
 use Rattle.sheets.specs.Table.{when}
 use Rattle.sheets.specs.Names.{Known, lookup, reading_words}
 use Rattle.sheets.specs.code.reader.Codes.{code_of}
+use Rattle.sheets.specs.declared.check.names.Names.{Names}
 use Rattle.sheets.specs.code.check.Newest.{Newest}
 use Rattle.sheets.specs.code.run.Slots.{empty_slot}
 use Rattle.sheets.specs.code.run.Floats.{float_at, Lies}
@@ -42,28 +43,27 @@ word_found t rs (suc n) c = when (eqb (get_or t (suc n) empty_slot).word c) (som
 pub record Tabled (ps : Known Value) (t : List Slot) (n : ℕ) (rs : List Float) : Type 0 where
   pub is : (w : Word) → IsWord w → lookup w ps ≡ word_found t rs n (code_of w)
 
--- ---- the lists that are lent
+-- ---- what is lent
 
 -- the word, the kind and the value of a slot stand at its place
-pub record SlotListed (x : Slot) (words kinds : List ℕ) (f : List Float) (j : ℕ) : Type 0 where
-  pub word : get_or words j 0 ≡ x.word
-  pub kind : get_or kinds j 0 ≡ kind_code (kind_of x.value)
+pub record SlotListed (x : Slot) (names : Names) (f : List Float) (j : ℕ) : Type 0 where
+  pub word : get_or names.words j 0 ≡ x.word
+  pub kind : get_or names.kinds j 0 ≡ kind_code (kind_of x.value)
   pub lies : Lies f (21 * j) x.value
 
--- so stand the first n slots after slot 0; `newest` has their words' newest places, and the readings stand first among the floats
-pub record Listed (t : List Slot) (rs : List Float) (words kinds newest : List ℕ) (f : List Float) (n : ℕ) : Type 0 where
-  pub few : n ≤ 95
+-- so stand the first n slots after slot 0; and the readings stand first among the floats
+pub record Listed (t : List Slot) (rs : List Float) (names : Names) (f : List Float) (n : ℕ) : Type 0 where
   pub slots : length t ≡ 96
-  pub sizes : (length words ≡ 96) × (length kinds ≡ 96) × (length f ≡ 2940)
-  pub place : (i : ℕ) → i < n → SlotListed (get_or t (suc i) empty_slot) words kinds f (suc i)
+  pub size : length f ≡ 2940
+  pub place : (i : ℕ) → i < n → SlotListed (get_or t (suc i) empty_slot) names f (suc i)
   pub reading : (i : ℕ) → i < 16 → float_at f i ≡ get_or rs i (num 0)
-  pub from : Newest words n newest
+  pub from : Newest names n
 
 -- they stand for the known words ps, and lie below `top`
-pub record Ready (ps : Known Value) (words kinds newest : List ℕ) (f : List Float) (top : ℕ) : Type 0 where
+pub record Ready (ps : Known Value) (names : Names) (f : List Float) (top : ℕ) : Type 0 where
   pub slots : List Slot
   pub readings : List Float
   pub n : ℕ
-  pub listed : Listed slots readings words kinds newest f n
+  pub listed : Listed slots readings names f n
   pub tabled : Tabled ps slots n readings
   pub below : 21 * n + 21 ≤ top

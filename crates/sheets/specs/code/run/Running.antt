@@ -1,6 +1,6 @@
 -- What the pieces of the run answer, said of the machine over what the reader reads.
 -- No part of what must be believed: they only tie the code to the machine.
-use Rattle.std.specs.Prelude.{ℕ, ◌*◌, ◌%◌, ◌<◌, ◌≡◌, List, [], length, get_or, set, replicate, Float}
+use Rattle.std.specs.Prelude.{ℕ, ◌*◌, ◌<◌, ◌≡◌, List, [], length, get_or, replicate, Float}
 use Rattle.numbers.specs.Ops.{num}
 use Rattle.frames.specs.declared.Ellipsoid.{Ellipsoid}
 use Rattle.sheets.specs.declared.Value.{Value}
@@ -17,6 +17,8 @@ use Rattle.sheets.specs.code.reader.Reader.{got, let_word, rest, formed, read_li
 use Rattle.sheets.specs.code.rows.KindCodes.{kind_at}
 use Rattle.sheets.specs.code.run.Floats.{float_at, value_at}
 use Rattle.sheets.specs.code.run.Known.{Ready}
+use Rattle.sheets.specs.declared.check.names.Names.{Names}
+use Rattle.sheets.specs.code.check.Newest.{with_name}
 use Rattle.sheets.specs.code.run.Evaluating.{Answers}
 
 -- the readings stand first among the floats, 0 for one that is lacking, where there were only zeros
@@ -26,15 +28,13 @@ pub record WithReadings (rs f f' : List Float) : Type 0 where
 -- ---- a line
 
 -- what is left of a let from the place of its expression: its value, and the place of the next line
-pub record LetWith (s : List ℕ) (at : ℕ) (e : Ellipsoid) (words kinds newest : List ℕ) (f : List Float) (top : ℕ) (r : Evaluated) (f' : List Float) : Type 0 where
-  pub is : (ps : Known Value) → Ready ps words kinds newest f top → (w : Word) (l : Line) (n : ℕ) → rest s (let_word w) at ≡ got l n → (x : Expr) × (l ≡ let_line w x) × Answers (eval x e ps) n top f r f'
+pub record LetWith (s : List ℕ) (at : ℕ) (e : Ellipsoid) (names : Names) (f : List Float) (top : ℕ) (r : Evaluated) (f' : List Float) : Type 0 where
+  pub is : (ps : Known Value) → Ready ps names f top → (w : Word) (l : Line) (n : ℕ) → rest s (let_word w) at ≡ got l n → (x : Expr) × (l ≡ let_line w x) × Answers (eval x e ps) n top f r f'
 
--- a name given at a place: x is its slot, and the lists have its word, its kind and its newest place
-pub record GivenAt (word kind place : ℕ) (f : List Float) (words kinds newest : List ℕ) (x : Slot) (words' kinds' newest' : List ℕ) : Type 0 where
+-- a name given at a place: x is its slot, and it is given among the names
+pub record GivenAt (word kind place : ℕ) (f : List Float) (names : Names) (x : Slot) (names' : Names) : Type 0 where
   pub slot_is : x ≡ record { word = word; value = value_at (kind_at kind) f (21 * place) }
-  pub words_are : words' ≡ set words place word
-  pub kinds_are : kinds' ≡ set kinds place kind
-  pub newest_are : newest' ≡ set newest (word % 512) place
+  pub names_are : names' ≡ with_name names word kind place
 
 -- the answer where a line does not go on
 unfoldable pub stopped_at : Evaluated → ℕ → ℕ → RunAnswer

@@ -1,12 +1,11 @@
 -- The loop of `sheets::check::admit::walk_lines`.
-use Prim.Native.Nat.{◌≤◌, ◌-◌}
+use Prim.Native.Nat.{◌-◌}
 use mathlib.Core.Path.{◌≡◌}
-use lib.ListN.{length}
 use Rattle.sheets.proofs.check.AdmitSteps.{Midway}
 use Rattle.sheets.proofs.check.admit.walk_lines.Given as goal
 
 abbrev pub invariant-loop-at : goal.invariant-loop-at
-invariant-loop-at l = (l.passed ≤ 95) × (length l.words ≡ 96) × (length l.codes ≡ 96) × (l.s ≡ l.sheet) × Midway l.s l.start l.at l.passed l.words l.codes l.newest
+invariant-loop-at l = (l.s ≡ l.sheet) × Midway l.s l.start l.at l.passed l.names
 
 abbrev pub decreases-loop-at : goal.decreases-loop-at
 decreases-loop-at l = 95 - l.passed

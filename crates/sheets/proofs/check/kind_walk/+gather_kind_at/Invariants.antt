@@ -13,7 +13,7 @@ decreases-kind_at l = l.depth * 2
 
 abbrev pub invariant-gather-loop-b : goal.invariant-gather-loop-b
 invariant-gather-loop-b l =
-    ByteAt l.s l.i l.b × (l.left ≤ 5) × (l.key < 512 ^ (5 - l.left)) × ((q : KeyRead) → ForKnown l.words l.codes l.newest (λ ps. ArgsHave l.s l.i l.depth l.left l.key ps q) → ForKnown l.words l.codes l.newest (λ ps. ArgsHave l.s l.at l.depth 5 0 ps q))
+    ByteAt l.s l.i l.b × (l.left ≤ 5) × (l.key < 512 ^ (5 - l.left)) × ((q : KeyRead) → ForKnown l.names (λ ps. ArgsHave l.s l.i l.depth l.left l.key ps q) → ForKnown l.names (λ ps. ArgsHave l.s l.at l.depth 5 0 ps q))
 
 abbrev pub decreases-gather-loop-b : goal.decreases-gather-loop-b
 decreases-gather-loop-b l = l.left

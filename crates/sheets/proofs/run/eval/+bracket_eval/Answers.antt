@@ -8,13 +8,13 @@ use Rattle.sheets.proofs.run.BracketSteps.{evals-form, bracket-closed, bracket-s
 use Rattle.sheets.proofs.run.eval.+bracket_eval.Goals as goal
 
 pub eval-returns-then-depth-eq0 : goal.eval-returns-then-depth-eq0
-eval-returns-then-depth-eq0 t c = evals-bad _ _ _ _ _ _ _ _ _ _ _ (expr-deep _ _ _ c.byte-b.ensures.is _ c.if-b-eq40.true c.if-depth-eq0.true)
+eval-returns-then-depth-eq0 t c = evals-bad _ _ _ _ _ _ _ _ _ (expr-deep _ _ _ c.byte-b.ensures.is _ c.if-b-eq40.true c.if-depth-eq0.true)
 
 pub eval-overflow_add-at : goal.eval-overflow_add-at
 eval-overflow_add-at t c = omega (arith, c.byte-b.ensures.inside)
 
 pub eval-returns-in_default : goal.eval-returns-in_default
-eval-returns-in_default t c = evals-bad _ _ _ _ _ _ _ _ _ _ _ (expr-no-word _ _ _ c.byte-b.ensures.is _ c.if-b-eq40.true c.if-depth-eq0.false _ c.word-w.ensures c.in_default.is)
+eval-returns-in_default t c = evals-bad _ _ _ _ _ _ _ _ _ (expr-no-word _ _ _ c.byte-b.ensures.is _ c.if-b-eq40.true c.if-depth-eq0.false _ c.word-w.ensures c.in_default.is)
 
 pub eval-overflow_sub-depth : goal.eval-overflow_sub-depth
 eval-overflow_sub-depth t c = omega arith
@@ -23,19 +23,19 @@ pub eval-bracket-requires : goal.eval-bracket-requires
 eval-bracket-requires t c = (omega arith, omega (arith, c.requires))
 
 pub eval-returns-then-b-eq40 : goal.eval-returns-then-b-eq40
-eval-returns-then-b-eq40 t c = evals-form _ _ _ c.byte-b.ensures.is _ c.if-b-eq40.true c.if-depth-eq0.false _ c.word-w.ensures _ _ c.in-Is.is _ _ _ _ _ _ _ _ c.bracket.ensures
+eval-returns-then-b-eq40 t c = evals-form _ _ _ c.byte-b.ensures.is _ c.if-b-eq40.true c.if-depth-eq0.false _ c.word-w.ensures _ _ c.in-Is.is _ _ _ _ _ _ c.bracket.ensures
 
 pub eval-leaf-requires : goal.eval-leaf-requires
 eval-leaf-requires t c = omega (arith, c.requires)
 
 pub eval-returns : goal.eval-returns
-eval-returns t c = evals-leaf _ _ _ _ _ _ _ _ _ _ _ _ c.byte-b.ensures.is c.if-b-eq40.false c.leaf.ensures
+eval-returns t c = evals-leaf _ _ _ _ _ _ _ _ _ _ c.byte-b.ensures.is c.if-b-eq40.false c.leaf.ensures
 
 pub bracket-loop-b-init : goal.bracket-loop-b-init
 bracket-loop-b-init t c = (c.byte-b.ensures, omega arith, omega arith, λ q g h. h)
 
 pub bracket-returns-then-left-eq0 : goal.bracket-returns-then-left-eq0
-bracket-returns-then-left-eq0 t c = c.loop-b.invariant.3 _ _ (bracket-sixth _ _ _ c.loop-b.invariant.0.is _ _ _ _ _ _ _ _ _ _ c.loop-b-test.true c.if-left-eq0.true _ _)
+bracket-returns-then-left-eq0 t c = c.loop-b.invariant.3 _ _ (bracket-sixth _ _ _ c.loop-b.invariant.0.is _ _ _ _ _ _ _ _ c.loop-b-test.true c.if-left-eq0.true _ _)
 
 pub bracket-overflow_sub-room : goal.bracket-overflow_sub-room
 bracket-overflow_sub-room t c = omega arith
@@ -53,10 +53,10 @@ pub bracket-eval-r-requires : goal.bracket-eval-r-requires
 bracket-eval-r-requires t c = (omega arith, omega (arith, c.requires, c.loop-b.invariant.1, c.if-left-eq0.false))
 
 pub bracket-returns-in-Sticks : goal.bracket-returns-in-Sticks
-bracket-returns-in-Sticks t c = c.loop-b.invariant.3 _ _ (bracket-stuck _ _ _ c.loop-b.invariant.0.is _ _ _ _ _ _ _ _ _ _ c.loop-b-test.true c.if-left-eq0.false _ refl _ _ c.eval-r.ensures c.in-Sticks.is)
+bracket-returns-in-Sticks t c = c.loop-b.invariant.3 _ _ (bracket-stuck _ _ _ c.loop-b.invariant.0.is _ _ _ _ _ _ _ _ c.loop-b-test.true c.if-left-eq0.false _ refl _ _ c.eval-r.ensures c.in-Sticks.is)
 
 pub bracket-returns-in-Stops : goal.bracket-returns-in-Stops
-bracket-returns-in-Stops t c = c.loop-b.invariant.3 _ _ (bracket-stopped _ _ _ c.loop-b.invariant.0.is _ _ _ _ _ _ _ _ _ _ c.loop-b-test.true c.if-left-eq0.false _ refl _ _ c.eval-r.ensures _ c.in-Stops.is)
+bracket-returns-in-Stops t c = c.loop-b.invariant.3 _ _ (bracket-stopped _ _ _ c.loop-b.invariant.0.is _ _ _ _ _ _ _ _ c.loop-b-test.true c.if-left-eq0.false _ refl _ _ c.eval-r.ensures _ c.in-Stops.is)
 
 pub bracket-overflow_mul-key : goal.bracket-overflow_mul-key
 bracket-overflow_mul-key t c = omega (arith, key-grows _ _ c.in-Is.kind c.if-left-eq0.false c.loop-b.invariant.1 c.loop-b.invariant.2 (omega arith))
@@ -82,7 +82,7 @@ bracket-loop-b-preserved t c =
       c.byte-b-in-Is.ensures,
       omega (arith, c.loop-b.invariant.1),
       k.0,
-      λ q g h. c.loop-b.invariant.3 q g (bracket-more _ _ _ c.loop-b.invariant.0.is _ _ _ _ _ _ _ _ _ _ c.loop-b-test.true c.if-left-eq0.false _ refl _ _ c.eval-r.ensures _ _ c.in-Is.is _ refl q g h),
+      λ q g h. c.loop-b.invariant.3 q g (bracket-more _ _ _ c.loop-b.invariant.0.is _ _ _ _ _ _ _ _ c.loop-b-test.true c.if-left-eq0.false _ refl _ _ c.eval-r.ensures _ _ c.in-Is.is _ refl q g h),
     )
 
 pub bracket-overflow_add-i-then-b-eq41 : goal.bracket-overflow_add-i-then-b-eq41
@@ -92,7 +92,7 @@ pub bracket-apply-requires : goal.bracket-apply-requires
 bracket-apply-requires t c = omega (arith, c.requires)
 
 pub bracket-returns-then-b-eq41 : goal.bracket-returns-then-b-eq41
-bracket-returns-then-b-eq41 t c = c.loop-b.invariant.3 _ _ (bracket-closed _ _ _ c.loop-b.invariant.0.is _ _ _ _ _ _ _ _ _ _ c.if-b-eq41.true _ _ c.apply.ensures)
+bracket-returns-then-b-eq41 t c = c.loop-b.invariant.3 _ _ (bracket-closed _ _ _ c.loop-b.invariant.0.is _ _ _ _ _ _ _ _ c.if-b-eq41.true _ _ c.apply.ensures)
 
 pub bracket-returns : goal.bracket-returns
-bracket-returns t c = c.loop-b.invariant.3 _ _ (bracket-other _ _ _ c.loop-b.invariant.0.is _ _ _ _ _ _ _ _ _ _ c.loop-b-test.false c.if-b-eq41.false _ _)
+bracket-returns t c = c.loop-b.invariant.3 _ _ (bracket-other _ _ _ c.loop-b.invariant.0.is _ _ _ _ _ _ _ _ c.loop-b-test.false c.if-b-eq41.false _ _)

@@ -14,7 +14,7 @@ decreases-bracket l = l.depth * 2 + 1
 
 abbrev pub invariant-bracket-loop-b : goal.invariant-bracket-loop-b
 invariant-bracket-loop-b l =
-    ByteAt l.s l.i l.b × (l.left ≤ 5) × (l.key < 512 ^ (5 - l.left)) × ((q : Evaluated) (g : List Float) → BracketWith l.s l.i l.depth l.left l.e l.code l.words l.kinds l.newest l.key l.floats l.top q g → BracketWith l.s l.at l.depth 5 l.e l.code l.words l.kinds l.newest 0 l.initial.floats l.top q g)
+    ByteAt l.s l.i l.b × (l.left ≤ 5) × (l.key < 512 ^ (5 - l.left)) × ((q : Evaluated) (g : List Float) → BracketWith l.s l.i l.depth l.left l.e l.code l.names l.key l.floats l.top q g → BracketWith l.s l.at l.depth 5 l.e l.code l.names 0 l.initial.floats l.top q g)
 
 abbrev pub decreases-bracket-loop-b : goal.decreases-bracket-loop-b
 decreases-bracket-loop-b l = l.left

@@ -10,7 +10,7 @@ use Rattle.sheets.proofs.run.lines_run.run_lines.Goals as goal
 use Rattle.sheets.proofs.run.lines_run.run_lines.Goals.{then-loop-line-test+else-at-s, else-loop-line-test}
 
 pub loop-line-init : goal.loop-line-init
-loop-line-init c = (simp length-replicate, omega arith, omega arith, refl, runs-start _ _ (search rules) _ _ _ _ _ c.new-shown.ensures _ c.put_readings.ensures)
+loop-line-init c = (simp length-replicate, omega arith, omega arith, refl, runs-start _ _ (search rules) _ _ _ _ c.new-names.ensures _ _ c.new-shown.ensures _ c.put_readings.ensures)
 
 pub overflow_add-line : goal.overflow_add-line
 overflow_add-line c = omega arith
@@ -49,19 +49,19 @@ pub loop-line-smaller-in-Let : goal.loop-line-smaller-in-Let
 loop-line-smaller-in-Let c = omega (arith, c.loop-line-test.true)
 
 pub loop-line-preserved-in-Let : goal.loop-line-preserved-in-Let
-loop-line-preserved-in-Let c = (simp length-set c.loop-line.invariant.0, omega (arith, c.loop-line.invariant.1), omega (arith, c.loop-line-test.true), c.loop-line.invariant.3, λ q o k. c.loop-line.invariant.4 q o (runs-let c.if-at-s.true _ _ (head-says _ _ _ c.line_head.ensures _ c.in-Let.is) _ _ c.let_value-r.ensures _ _ c.in-Is.is (omega (arith, c.loop-line.invariant.1, c.loop-line-test.true)) _ _ _ _ c.give.ensures q o k))
+loop-line-preserved-in-Let c = (simp length-set c.loop-line.invariant.0, omega (arith, c.loop-line.invariant.1), omega (arith, c.loop-line-test.true), c.loop-line.invariant.3, λ q o k. c.loop-line.invariant.4 q o (runs-let c.if-at-s.true _ _ (head-says _ _ _ c.line_head.ensures _ c.in-Let.is) _ _ c.let_value-r.ensures _ _ c.in-Is.is (omega (arith, c.loop-line.invariant.1, c.loop-line-test.true)) _ _ c.give.ensures q o k))
 
 pub bounds-t-j : goal.bounds-t-j
-bounds-t-j c = omega (arith, c.word_place-j.ensures.most, c.loop-line.invariant.0)
+bounds-t-j c = omega (arith, c.place-j.ensures.most, c.loop-line.invariant.0)
 
 pub whole_line-requires : goal.whole_line-requires
-whole_line-requires c = c.word_place-j.ensures.most
+whole_line-requires c = c.place-j.ensures.most
 
 pub shape_of-out-in_default-whole_line : goal.shape_of-out-in_default-whole_line
 shape_of-out-in_default-whole_line c = c.whole_line.auto.out ∙ c.loop-line.invariant.3
 
 pub returns-in_default-whole_line : goal.returns-in_default-whole_line
-returns-in_default-whole_line c = c.loop-line.invariant.4 _ _ (runs-whole-not c.if-at-s.true _ c.line_head.ensures _ _ c.in-Whole.is (omega (arith, c.loop-line-test.true)) _ c.named.ensures _ c.word_place-j.ensures _ _ _ _ c.whole_line.ensures (opened c.in_default-whole_line.in_default-whole_line-own.keys2) _ c.stopped-in_default-whole_line.ensures)
+returns-in_default-whole_line c = c.loop-line.invariant.4 _ _ (runs-whole-not c.if-at-s.true _ c.line_head.ensures _ _ c.in-Whole.is (omega (arith, c.loop-line-test.true)) _ c.named.ensures _ c.place-j.ensures _ _ _ _ c.whole_line.ensures (opened c.in_default-whole_line.in_default-whole_line-own.keys2) _ c.stopped-in_default-whole_line.ensures)
 
 pub loop-line-smaller : goal.loop-line-smaller
 loop-line-smaller c = omega (arith, c.loop-line-test.true)
@@ -73,7 +73,7 @@ loop-line-preserved c =
       omega (arith, before.1),
       omega (arith, c.loop-line-test.true),
       c.whole_line.auto.out ∙ before.3,
-      λ q o k. before.4 q o (runs-whole c.if-at-s.true _ c.line_head.ensures _ _ c.in-Whole.is (omega (arith, c.loop-line-test.true)) _ c.named.ensures _ c.word_place-j.ensures _ _ _ _ c.whole_line.ensures (omega (arith, before.1)) _ _ c.in-Is-whole_line.is q o k),
+      λ q o k. before.4 q o (runs-whole c.if-at-s.true _ c.line_head.ensures _ _ c.in-Whole.is (omega (arith, c.loop-line-test.true)) _ c.named.ensures _ c.place-j.ensures _ _ _ _ c.whole_line.ensures (omega (arith, before.1)) _ _ c.in-Is-whole_line.is q o k),
     )
 
 pub shape_of-out : goal.shape_of-out

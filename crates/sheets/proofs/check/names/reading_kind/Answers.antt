@@ -1,7 +1,7 @@
--- `sheets::check::kind_walk::reading_kind` meets its contract. Assumes nothing.
+-- `sheets::check::names::reading_kind` meets its contract. Assumes nothing.
 use Rattle.sheets.specs.code.reader.Codes.{word_char, code_from}
 use Rattle.sheets.proofs.check.PassedLaws.{reading-before, reading-low, reading-between, reading-high, reading-behind}
-use Rattle.sheets.proofs.check.kind_walk.reading_kind.Goals as goal
+use Rattle.sheets.proofs.check.names.reading_kind.Goals as goal
 
 pub returns-then-code-lt-R0 : goal.returns-then-code-lt-R0
 unfolding word_char code_from

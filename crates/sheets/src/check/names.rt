@@ -1,0 +1,93 @@
+// The words given on the lines passed, each at a place counted from 1, and the search for a word among them, the newest first.
+ghost use Rattle.std.specs.Prelude.{◌≡◌, ◌≤◌};
+ghost use Rattle.sheets.specs.code.check.Newest.{no_names, with_name, newest_of, Placed};
+ghost use Rattle.sheets.specs.code.check.Walking.{reading_kind, kind_found};
+
+use crate::reader::words;
+
+// `words` has the words' codes and `kinds` their kinds' codes, each at the word's place; at the first place, 0, stands no word.
+// `newest` says where the search for a word begins, so that it does not go over every word before it: for each remainder of the words' codes by 512 the newest place of a word that has it, 0 for none.
+// It is 1,376 bytes: it is lent, and nothing takes it by value.
+#[derive(Drop)]
+pub struct Names {
+    words: [u64; 96],
+    pub kinds: [u8; 96],
+    newest: [u8; 512],
+}
+
+impl Names {
+    // No word yet; line 1 of a sheet, which has the place 0, has no kind.
+    pub fn new() -> Names
+        ensures { result ≡ no_names }
+    {
+        Names {
+            words: [0; 96],
+            kinds: [255; 96],
+            newest: [0; 512],
+        }
+    }
+
+    // The newest place of a word that may be the one with this code.
+    fn newest_of(&self, code: u64) -> usize
+        ensures { result ≡ newest_of self.now code }
+    {
+        self.newest[(code % 512) as usize] as usize
+    }
+
+    // The place of the newest word with this code; 0 for none.
+    pub fn place(&self, code: u64) -> usize
+        ensures { Placed self.now code result }
+    {
+        let mut i = self.newest_of(code);
+        if 95 < i {
+            return 0;
+        }
+        while 0 < i {
+            if self.words[i] == code {
+                return i;
+            }
+            i -= 1;
+        }
+        0
+    }
+
+    // The kind of the word with this code, 255 where it is unknown.
+    pub fn kind(&self, code: u64) -> u8
+        ensures { result ≡ kind_found self.now code }
+    {
+        let i = self.place(code);
+        if i == 0 {
+            return reading_kind(code);
+        }
+        self.kinds[i]
+    }
+
+    // The word with this code is given at a place, with this kind.
+    pub fn give(&mut self, code: u64, kind: u8, place: usize)
+        requires { place ≤ 95 }
+        ensures { self.new ≡ with_name self.old code kind place }
+    {
+        self.words[place] = code;
+        self.kinds[place] = kind;
+        self.newest[(code % 512) as usize] = place as u8;
+    }
+}
+
+// A reading is n; 255 for a word that is no reading. The codes of r0 to r9 follow each other, and so do those of r10 to r15.
+fn reading_kind(code: u64) -> u8
+    ensures { result ≡ reading_kind code }
+{
+    if code < words::R0 {
+        return 255;
+    }
+    if code <= words::R9 {
+        return 0;
+    }
+    if code < words::R10 {
+        return 255;
+    }
+    if code <= words::R15 {
+        return 0;
+    }
+    255
+}
