@@ -126,11 +126,9 @@ fn short_of(max: f64, radians: f64) -> f64
 fn wrapped(rest: f64, max: f64) -> f64
     ensures { angle result ≡ pick (Ieee.lt rest (num 0)) (angle (raised rest max)) (angle rest) }
 {
-    if rest < 0.0 {
-        if max > 0.0 {
-            return short_of(max, rest + max);
-        }
-        return rest + max;
+    if rest < 0.0 && max > 0.0 {
+        short_of(max, rest + max)
+    } else {
+        lifted(rest, max)
     }
-    rest
 }

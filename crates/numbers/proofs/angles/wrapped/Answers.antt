@@ -3,15 +3,15 @@ use lib.Ieee.{of_bits}
 use Rattle.numbers.specs.Ops.{decimal}
 use Rattle.numbers.specs.Angles.{raised}
 use Rattle.numbers.proofs.angles.wrapped.Goals as goal
+use Rattle.numbers.proofs.angles.wrapped.Goals.{else-rest-via-then-rest+else-max, else-rest-via-else-rest}
 
 pub returns-then-max : goal.returns-then-max
 unfolding of_bits decimal raised
 returns-then-max c = simp (c.short_of.ensures, c.if-max.true, c.if-rest.true)
 
-pub returns-then-rest : goal.returns-then-rest
+pub returns-else-rest : goal.returns-else-rest
 unfolding of_bits decimal raised
-returns-then-rest c = simp (c.if-max.false, c.if-rest.true)
-
-pub returns : goal.returns
-unfolding of_bits decimal
-returns c = simp c.if-rest.false
+returns-else-rest c = elim c.else-rest.branch [
+  | else-rest-via-then-rest+else-max w ↦ simp (c.lifted.ensures, w.if-max.false, w.if-rest.true)
+  | else-rest-via-else-rest w ↦ simp (c.lifted.ensures, w.if-rest.false)
+]

@@ -1,12 +1,12 @@
 -- `numbers::units::shifted` meets its contract: after n turns, rest is what b leaves of a * 2 ^ (11 * n). Assumes nothing.
 use Rattle.std.proofs.Common.{◌≡◌, ℕ, ◌+◌, ◌*◌, ◌%◌, ◌^◌, ◌<◌, ◌≤◌, sym, ap, ◌∙◌, mod-lt, mul_assoc, mul-le-mul, arith, pow_mono, pow-add}
-use Rattle.numbers.proofs.Modulo.{mod-first}
+use Rattle.std.proofs.lemmas.Nat.{mul-mod_first}
 use Rattle.numbers.proofs.units.shifted.Goals as goal
 
 -- m more digits behind a * 2 ^ j
 behind : (a b j m rest : ℕ) → rest ≡ a * 2 ^ j % b → rest * 2 ^ m % b ≡ a * 2 ^ (j + m) % b
 behind a b j m rest e =
-    ap (λ (z : ℕ). z * 2 ^ m % b) e ∙ mod-first (a * 2 ^ j) b (2 ^ m) ∙ ap (λ (z : ℕ). z % b) (mul_assoc a (2 ^ j) (2 ^ m) ∙ ap (λ (z : ℕ). a * z) (sym (pow-add 2 j m)))
+    ap (λ (z : ℕ). z * 2 ^ m % b) e ∙ mul-mod_first (a * 2 ^ j) (2 ^ m) b ∙ ap (λ (z : ℕ). z % b) (mul_assoc a (2 ^ j) (2 ^ m) ∙ ap (λ (z : ℕ). a * z) (sym (pow-add 2 j m)))
 
 less : (a b j rest : ℕ) → 0 < b → rest ≡ a * 2 ^ j % b → rest < b
 less a b j rest p e = rw e (mod-lt (a * 2 ^ j) p)
