@@ -4,6 +4,7 @@ ghost use Rattle.frames.specs.Ellipsoids as Ellipsoids;
 ghost use Rattle.frames.specs.Ellipsoids.{ellipsoid, geodetic_to_geocentric, geocentric_to_geodetic, p_of, q_of, u_of, k_of, geodetic_by};
 ghost use Rattle.frames.specs.Radii.{geocentric_radius, latitude_radius, prime_vertical_radius, meridian_radius, mean_radius};
 
+use crate::positions::PositionVector;
 use crate::{Ellipsoid, GeocentricPosition, GeodeticPosition, NVector};
 use numbers::powers::{powf_third, powf_three_halves};
 use numbers::root::sqrt;

@@ -3,14 +3,39 @@ ghost use Rattle.std.specs.Prelude.{◌≡◌};
 ghost use Rattle.frames.specs.Frames as Frames;
 ghost use Rattle.numbers.specs.Mat.{mat_mul};
 ghost use Rattle.frames.specs.Rotations.{zyx2r};
-ghost use Rattle.frames.specs.Frames.{by_direction, new_enu, new_ned, new_body, new_wander_azimuth, looking_at, rotate_around_z, frame_origin, local_vector_to, destination_position};
+ghost use Rattle.frames.specs.Frames.{by_inverse, by_direction, new_enu, new_ned, new_body, new_wander_azimuth, looking_at, rotate_around_z, frame_origin, local_vector_to, destination_position};
 ghost use Rattle.frames.specs.declared.Orientation.TheVariants.{Body};
 
 use crate::orientations::align_to_z_down_matrix;
-use crate::positions::Position;
+use crate::positions::{Position, PositionVector};
 use crate::rotation::{xyz2r, zyx2r};
 use crate::{Ellipsoid, GeocentricPosition, LatLong, LocalFrame, LocalVector, Orientation};
 use numbers::{Angle, Mat33, Vec3};
+
+// A frame's two matrices: each is the other's transpose.
+impl LocalFrame {
+    fn by_inverse(orientation: Orientation, origin: Vec3, inv_rm: Mat33) -> Self
+        ensures { result ≡ by_inverse orientation origin inv_rm }
+    {
+        LocalFrame {
+            origin,
+            dir_rm: inv_rm.transpose(),
+            inv_rm,
+            orientation,
+        }
+    }
+
+    fn by_direction(orientation: Orientation, origin: Vec3, dir_rm: Mat33) -> Self
+        ensures { result ≡ by_direction orientation origin dir_rm }
+    {
+        LocalFrame {
+            origin,
+            dir_rm,
+            inv_rm: dir_rm.transpose(),
+            orientation,
+        }
+    }
+}
 
 // The frames of a position, in either of its forms. The Rust has two constructors of each, `from_geocentric` and `from_geodetic`.
 impl LocalFrame {
@@ -23,12 +48,8 @@ impl LocalFrame {
         let re = Vec3::UNIT_Z.orthogonal_to(vo);
         let rn = ru.cross_prod(re);
         let inv_rm = Mat33::new(re, rn, ru);
-        LocalFrame {
-            origin: origin.to_geocentric(surface).as_metres(),
-            dir_rm: inv_rm.transpose(),
-            inv_rm,
-            orientation: Orientation::Enu,
-        }
+        let at = origin.to_geocentric(surface).as_metres();
+        LocalFrame::by_inverse(Orientation::Enu, at, inv_rm)
     }
 
     // North-east-down.
@@ -40,12 +61,8 @@ impl LocalFrame {
         let re = Vec3::UNIT_Z.orthogonal_to(vo);
         let rn = re.cross_prod(rd);
         let inv_rm = Mat33::new(rn, re, rd);
-        LocalFrame {
-            origin: origin.to_geocentric(surface).as_metres(),
-            dir_rm: inv_rm.transpose(),
-            inv_rm,
-            orientation: Orientation::Ned,
-        }
+        let at = origin.to_geocentric(surface).as_metres();
+        LocalFrame::by_inverse(Orientation::Ned, at, inv_rm)
     }
 
     // A vehicle's body.
@@ -77,12 +94,7 @@ impl LocalFrame {
         let r_nb = zyx2r(yaw, pitch, roll);
         let r_en = self.dir_rm;
         let dir_rm = r_en * r_nb;
-        LocalFrame {
-            origin: self.origin,
-            dir_rm,
-            inv_rm: dir_rm.transpose(),
-            orientation: Orientation::Body,
-        }
+        LocalFrame::by_direction(Orientation::Body, self.origin, dir_rm)
     }
 
     pub fn wander_azimuth<P: Position>(wander_azimuth: Angle, origin: P, surface: Ellipsoid) -> Self
@@ -92,12 +104,8 @@ impl LocalFrame {
         let r = xyz2r(ll.longitude, -ll.latitude, wander_azimuth);
         let r_ee = Mat33::new(Vec3::NEG_UNIT_Z, Vec3::UNIT_Y, Vec3::UNIT_X);
         let dir_rm = r_ee * r;
-        LocalFrame {
-            origin: origin.to_geocentric(surface).as_metres(),
-            dir_rm,
-            inv_rm: dir_rm.transpose(),
-            orientation: Orientation::Wan,
-        }
+        let at = origin.to_geocentric(surface).as_metres();
+        LocalFrame::by_direction(Orientation::Wan, at, dir_rm)
     }
 }
 
@@ -107,15 +115,9 @@ impl LocalFrame {
         ensures { result ≡ rotate_around_z self angle }
     {
         let o = self.orientation;
-        let origin = self.origin;
         let rot_z = zyx2r(angle, Angle::ZERO, Angle::ZERO);
         let dir_rm = rotate(o, self.dir_rm, rot_z);
-        LocalFrame {
-            origin,
-            dir_rm,
-            inv_rm: dir_rm.transpose(),
-            orientation: Orientation::Wan,
-        }
+        LocalFrame::by_direction(Orientation::Wan, self.origin, dir_rm)
     }
 
     pub fn local_to_earth_matrix(self) -> Mat33
@@ -144,12 +146,7 @@ impl LocalFrame {
         let new_origin = self.origin + global_translation;
         let r_delta = zyx2r(yaw, pitch, roll);
         let dir_rm = rotate(o, self.dir_rm, r_delta);
-        LocalFrame {
-            origin: new_origin,
-            dir_rm,
-            inv_rm: dir_rm.transpose(),
-            orientation: Orientation::Body,
-        }
+        LocalFrame::by_direction(Orientation::Body, new_origin, dir_rm)
     }
 
     pub fn local_vector_to(self, target: GeocentricPosition) -> LocalVector

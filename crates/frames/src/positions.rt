@@ -1,17 +1,44 @@
 // Positions: geocentric, geodetic, and horizontal ones as an n-vector or as a latitude and a longitude.
 ghost use Rattle.std.specs.Prelude.{◌≡◌};
+ghost use Rattle.numbers.specs.Vec.{vec};
+ghost use Rattle.numbers.specs.declared.Length.{Length};
 ghost use Rattle.frames.specs.declared.Ellipsoid.{Ellipsoid};
 ghost use Rattle.frames.specs.declared.GeocentricPosition.{GeocentricPosition};
 ghost use Rattle.frames.specs.declared.GeodeticPosition.{GeodeticPosition};
 ghost use Rattle.frames.specs.Ellipsoids.{geodetic_to_geocentric, geocentric_to_geodetic};
 ghost use Rattle.frames.specs.Positions as Positions;
-ghost use Rattle.frames.specs.Positions.{geocentric, geocentric_from_metres, geocentric_from_vec3, geocentric_as_metres, geodetic, lat_long, nvector_to_latlong, latlong_to_nvector};
+ghost use Rattle.frames.specs.Positions.{geocentric, geocentric_from_metres, geocentric_from_vec3, geodetic, lat_long, nvector_to_latlong, latlong_to_nvector};
 
 use crate::{Ellipsoid, GeocentricPosition, GeodeticPosition, LatLong, NVector};
 use numbers::arctangent::atan2;
 use numbers::root::sqrt;
 use numbers::sine::{cos, sin};
 use numbers::{Angle, Length, Vec3};
+
+// A vector by its three components. `PositionVector` of the Rust.
+pub trait PositionVector: Copy {
+    ghost x_of: { Self → Length };
+
+    ghost y_of: { Self → Length };
+
+    ghost z_of: { Self → Length };
+
+    fn x(self) -> Length
+        ensures { result ≡ x_of self };
+
+    fn y(self) -> Length
+        ensures { result ≡ y_of self };
+
+    fn z(self) -> Length
+        ensures { result ≡ z_of self };
+
+    // By `Vec3::new`: no part is minus zero.
+    fn as_metres(self) -> Vec3
+        ensures { result ≡ vec (x_of self).0 (y_of self).0 (z_of self).0 }
+    {
+        Vec3::new(self.x().0, self.y().0, self.z().0)
+    }
+}
 
 // A position that has both forms on a surface: one is its own, and the other the surface's conversion.
 pub trait Position: Copy {
@@ -76,29 +103,25 @@ impl GeocentricPosition {
     {
         GeocentricPosition::from_metres(v.x, v.y, v.z)
     }
+}
 
-    pub fn x(self) -> Length
-        ensures { result ≡ self.x }
-    {
+impl PositionVector for GeocentricPosition {
+    ghost x_of = { λ v. v.x };
+
+    ghost y_of = { λ v. v.y };
+
+    ghost z_of = { λ v. v.z };
+
+    fn x(self) -> Length {
         self.x
     }
 
-    pub fn y(self) -> Length
-        ensures { result ≡ self.y }
-    {
+    fn y(self) -> Length {
         self.y
     }
 
-    pub fn z(self) -> Length
-        ensures { result ≡ self.z }
-    {
+    fn z(self) -> Length {
         self.z
-    }
-
-    pub fn as_metres(self) -> Vec3
-        ensures { result ≡ geocentric_as_metres self }
-    {
-        Vec3::new(self.x.0, self.y.0, self.z.0)
     }
 }
 

@@ -1,8 +1,9 @@
 // Vectors in a local frame.
 ghost use Rattle.std.specs.Prelude.{◌≡◌};
 ghost use Rattle.frames.specs.Vectors as Vectors;
-ghost use Rattle.frames.specs.Vectors.{local_vector, local_from_metres, local_from_vec3, local_as_metres, local_zero, local_neg, local_add, local_sub, local_mul, local_div, from_aer, aer_to_nez, slant_range};
+ghost use Rattle.frames.specs.Vectors.{local_vector, local_from_metres, local_from_vec3, local_zero, local_neg, local_add, local_sub, local_mul, local_div, from_aer, aer_to_nez, slant_range};
 
+use crate::positions::PositionVector;
 use crate::{LocalVector, Orientation};
 use numbers::arctangent::{asin, atan2};
 use numbers::float::clamp_unit;
@@ -102,38 +103,12 @@ impl LocalVector {
     pub fn bearing(self) -> Angle
         ensures { result ≡ Vectors.bearing self }
     {
-        let o = self.orientation;
-        if o.is_z_up() {
-            let a = Angle(atan2(self.x.0, self.y.0));
-            a.normalised()
+        let heading = if self.orientation.is_z_up() {
+            atan2(self.x.0, self.y.0)
         } else {
-            let a = Angle(atan2(self.y.0, self.x.0));
-            a.normalised()
-        }
-    }
-
-    pub fn x(self) -> Length
-        ensures { result ≡ self.x }
-    {
-        self.x
-    }
-
-    pub fn y(self) -> Length
-        ensures { result ≡ self.y }
-    {
-        self.y
-    }
-
-    pub fn z(self) -> Length
-        ensures { result ≡ self.z }
-    {
-        self.z
-    }
-
-    pub fn as_metres(self) -> Vec3
-        ensures { result ≡ local_as_metres self }
-    {
-        Vec3::new(self.x.0, self.y.0, self.z.0)
+            atan2(self.y.0, self.x.0)
+        };
+        Angle(heading).normalised()
     }
 
     // East-north-up to north-east-down and back: `from` of the Rust, which has it for these two. Any other vector stays as it is.
@@ -150,6 +125,26 @@ impl LocalVector {
             Orientation::Body => self,
             Orientation::Wan => self,
         }
+    }
+}
+
+impl PositionVector for LocalVector {
+    ghost x_of = { λ v. v.x };
+
+    ghost y_of = { λ v. v.y };
+
+    ghost z_of = { λ v. v.z };
+
+    fn x(self) -> Length {
+        self.x
+    }
+
+    fn y(self) -> Length {
+        self.y
+    }
+
+    fn z(self) -> Length {
+        self.z
     }
 }
 

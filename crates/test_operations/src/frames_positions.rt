@@ -11,6 +11,7 @@ use crate::frames_answers as answers;
 use crate::frames_ellipsoids::ellipsoids;
 use crate::frames_inputs::{angle, geocentric, length};
 use crate::words::{vector, vector_at};
+use frames::positions::PositionVector;
 use frames::{GeocentricPosition, GeodeticPosition, LatLong, NVector};
 
 // Operations 0 to 9, and all that follow.

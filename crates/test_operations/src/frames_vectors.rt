@@ -10,6 +10,7 @@ use crate::frames_inputs::{local_vector, orientation};
 use crate::frames_rotations::rotations;
 use crate::words::{number, vector, vector_at};
 use frames::LocalVector;
+use frames::positions::PositionVector;
 use numbers::{Angle, Length};
 
 // Operations 17 to 21, those that make a vector, and all that follow.

@@ -5,6 +5,7 @@ ghost use Rattle.sheets.specs.Limits.{between, near, all_near, in_limit};
 ghost use Rattle.sheets.specs.Table.{far};
 
 use crate::Value;
+use frames::positions::PositionVector;
 use frames::{Ellipsoid, GeocentricPosition};
 
 // A NaN lies in no range.

@@ -3,6 +3,7 @@ ghost use Rattle.std.specs.Prelude.{◌≡◌, ◌≤◌};
 ghost use Rattle.sheets.specs.code.run.Apart.{clear_at, clear_below, apart_below};
 
 use crate::run::floats::position_at;
+use frames::positions::PositionVector;
 use numbers::Vec3;
 
 // Whether the name at a place, if it was shown, is at least so far from v. Where the square of its distance is greater the root is not taken: it would say the same (`square-decides` of numbers).

@@ -6,4 +6,4 @@ use Rattle.frames.proofs.LocalFrame.ned.Goals as goal
 
 pub returns : goal.returns
 unfolding of_bits decimal new_ned ned_inverse
-returns g c = simp (c.transpose.ensures, c.as_metres.ensures, c.to_geocentric.ensures, c.to_geodetic.ensures, c.new-inv_rm.ensures, c.cross_prod-rn.ensures, c.orthogonal_to-re.ensures, c.mul-rd.ensures)
+returns g c = simp (c.by_inverse.ensures, c.as_metres-at.ensures, c.to_geocentric.ensures, c.to_geodetic.ensures, c.new-inv_rm.ensures, c.cross_prod-rn.ensures, c.orthogonal_to-re.ensures, c.mul-rd.ensures)

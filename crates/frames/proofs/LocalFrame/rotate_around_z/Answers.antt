@@ -6,4 +6,4 @@ use Rattle.frames.proofs.LocalFrame.rotate_around_z.Goals as goal
 
 pub returns : goal.returns
 unfolding of_bits decimal rotate_around_z
-returns c = simp (c.transpose.ensures, c.rotate-dir_rm.ensures, c.zyx2r-rot_z.ensures)
+returns c = simp (c.by_direction.ensures, c.rotate-dir_rm.ensures, c.zyx2r-rot_z.ensures)
