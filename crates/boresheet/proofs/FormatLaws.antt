@@ -4,6 +4,7 @@ use native.Mathlib.Omega.{arith}
 use mathlib.Core.Path.{◌≡◌, refl, sym, ap, subst, ◌∙◌}
 use mathlib.Core.Logic.{inl, inr, ◌↔◌}
 use mathlib.Core.Bool.{Bool, true, false, cond, ◌&&◌}
+use Rattle.std.proofs.Common.{Result, Ok}
 use mathlib.Core.List.{List, [], ◌∷◌, ◌++◌, append_assoc, append-nil}
 use lib.Dec.{eqb, leb}
 use lib.ListN.{length, get_or, drop, length-append, length-drop, drop_of_length-le}
@@ -22,9 +23,8 @@ use Rattle.sheets.specs.declared.reader.num.DoubleRead.TheVariants.{Is, Not}
 use Rattle.sheets.proofs.reader.Spans.{Spans, spans-append, spans-split, spans-end, spans-drop, drop-spans, holds_at}
 use Rattle.sheets.proofs.reader.ReaderLaws.{byte_inside}
 use Rattle.sheets.proofs.reader.TokenLaws.{Stops, NumAt, num-sound, num-complete}
-use Rattle.boresheet.specs.declared.readings.Found.{Found}
-use Rattle.boresheet.specs.declared.readings.Readings.{Readings}
-use Rattle.boresheet.specs.Format.{hex_number, HexDigit, hexadecimal_from, Line, Lines, no_readings, ComesTo, all, short, bad, long}
+use Rattle.boresheet.specs.declared.readings.BadReadings.{BadReadings}
+use Rattle.boresheet.specs.Format.{hex_number, HexDigit, hexadecimal_from, Line, Lines, ComesTo, all, short, bad, long}
 use Rattle.boresheet.specs.code.Readings.{hex_if, hex_from, hex_at, end_if, ended_at, or_else, reading_at, lastly, line_if, readings_from, readings_of}
 
 not_is : {C : Type 0} (x : Float) (n : ℕ) → Not ≡ Is x n → C
@@ -222,22 +222,22 @@ module _ (s : List ℕ) where
   file-comes = comes 16 [] [] 0 (omega arith) refl refl (omega arith)
 
   -- the lines that stand from a place to the end are read
-  reads : (ys : List Float) (k : ℕ) (xs : List Float) (at : ℕ) → length ys ≡ k → Lines (drop at s) ys → readings_from k xs s at ≡ record { found = Found.All; values = xs ++ ys }
+  reads : (ys : List Float) (k : ℕ) (xs : List Float) (at : ℕ) → length ys ≡ k → Lines (drop at s) ys → readings_from k xs s at ≡ Ok (xs ++ ys)
   unfolding readings_from lastly line_if
   reads [] zero xs at c l = rw (le-leb (length s) at (omega (arith, length-drop at s, ap (λ (v : List ℕ). length v) l)), append-nil xs) refl
   reads [] (suc k) xs at c l = absurd (omega arith)
   reads (y ∷ ys) zero xs at c l = absurd (omega arith)
   reads (y ∷ ys) (suc k) xs at c (t, r, e, g, l) =
       let (n, er, d, inside, w) = line-complete s at t r y e g in
-      rw (lt-leb (length s) at inside, er) (reads ys k (xs ++ (y ∷ [])) n (omega arith) (subst (λ v. Lines v ys) (sym d) l) ∙ ap (λ v. record { found = Found.All; values = v }) (append_assoc xs (y ∷ []) ys))
+      rw (lt-leb (length s) at inside, er) (reads ys k (xs ++ (y ∷ [])) n (omega arith) (subst (λ v. Lines v ys) (sym d) l) ∙ ap Ok (append_assoc xs (y ∷ []) ys))
 
   -- the readings are xs exactly where the file is sixteen lines with these readings
-  pub file-exact : (xs : List Float) → (readings_of s ≡ record { found = Found.All; values = xs }) ↔ (Lines s xs × (length xs ≡ 16))
-  unfolding readings_of no_readings
+  pub file-exact : (xs : List Float) → (readings_of s ≡ Ok xs) ↔ (Lines s xs × (length xs ≡ 16))
+  unfolding readings_of
   file-exact xs = (λ e. back (readings_of s) file-comes e, λ (l, c). reads xs 16 [] 0 c l)
     where
-      back : (r : Readings) → ComesTo s r → r ≡ record { found = Found.All; values = xs } → Lines s xs × (length xs ≡ 16)
-      back r (all ys l c) e = let i : ys ≡ xs = ap (λ (z : Readings). z.values) e in (rw i at l, rw i at c)
-      back r (short ys l c) e = let f : Found.Short (length ys) ≡ Found.All = ap (λ (z : Readings). z.found) e in let z : ◌≡◌ {A = ℕ} 0 1 = cc in absurd (omega arith)
-      back r (bad u b t ys i l c n) e = let f : Found.Bad (length ys + 1) ≡ Found.All = ap (λ (z : Readings). z.found) e in let z : ◌≡◌ {A = ℕ} 0 1 = cc in absurd (omega arith)
-      back r (long u b t ys i l c) e = let f : Found.Long ≡ Found.All = ap (λ (z : Readings). z.found) e in let z : ◌≡◌ {A = ℕ} 0 1 = cc in absurd (omega arith)
+      back : (r : Result (List Float) BadReadings) → ComesTo s r → r ≡ Ok xs → Lines s xs × (length xs ≡ 16)
+      back r (all ys l c) e = let i : ys ≡ xs = cc in (rw i at l, rw i at c)
+      back r (short ys l c) e = absurd (cc)
+      back r (bad u b t ys i l c n) e = absurd (cc)
+      back r (long u b t ys i l c) e = absurd (cc)

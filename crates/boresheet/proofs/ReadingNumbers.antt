@@ -3,6 +3,7 @@ use Prim.Native.Nat.{ℕ, ◌+◌}
 use native.Mathlib.Omega.{arith}
 use mathlib.Core.Path.{◌≡◌, refl, sym, ap, subst, ◌∙◌}
 use mathlib.Core.Logic.{inl, inr}
+use Rattle.std.proofs.Common.{Result, Err}
 use mathlib.Core.List.{List, [], ◌∷◌, ◌++◌, append_assoc}
 use lib.ListN.{length}
 use lib.Ieee.{Float}
@@ -11,9 +12,8 @@ use Rattle.sheets.specs.LineNumbers.{count_lf, line_number}
 use Rattle.sheets.specs.declared.reader.num.DoubleRead.{DoubleRead}
 use Rattle.sheets.specs.declared.reader.num.DoubleRead.TheVariants.{Is}
 use Rattle.sheets.proofs.reader.LineNumbers.{count-append, NoLF, each_none, num-none, WholeLines, HasLine, begins, one_further}
-use Rattle.boresheet.specs.declared.readings.Found.{Found}
-use Rattle.boresheet.specs.declared.readings.Readings.{Readings}
-use Rattle.boresheet.specs.Format.{hex_number, HexDigit, Line, Lines, no_readings, ComesTo, all, short, bad, long}
+use Rattle.boresheet.specs.declared.readings.BadReadings.{BadReadings}
+use Rattle.boresheet.specs.Format.{hex_number, HexDigit, Line, Lines, ComesTo, all, short, bad, long}
 use Rattle.boresheet.specs.code.Readings.{reading_at}
 use Rattle.boresheet.proofs.FormatLaws.{hex-lf, line-sound}
 
@@ -40,9 +40,8 @@ lines-whole u (x ∷ xs) (t, r, e, l, h) = go (lines-whole r xs h)
     go (inl i) = inr (t, e ∙ ap (λ z. t ⌢ lf ⌢ z) i)
     go (inr (v, i)) = inr (t ⌢ lf ⌢ v, e ∙ ap (λ z. t ⌢ lf ⌢ z) i ∙ sym (append_assoc t (lf ++ v) lf))
 
-pub bad-reading : (s : List ℕ) (r : Readings) → ComesTo s r → (j : ℕ) → r.found ≡ Found.Bad j → HasLine s j
-unfolding no_readings
-bad-reading s r (all xs l n) j e = let z : ◌≡◌ {A = ℕ} 0 1 = cc in absurd (omega arith)
-bad-reading s r (short xs l n) j e = let z : ◌≡◌ {A = ℕ} 0 1 = cc in absurd (omega arith)
+pub bad-reading : (s : List ℕ) (r : Result (List Float) BadReadings) → ComesTo s r → (j : ℕ) → r ≡ Err (BadReadings.Line j) → HasLine s j
+bad-reading s r (all xs l n) j e = cc
+bad-reading s r (short xs l n) j e = cc
 bad-reading s r (bad u b v xs es l n h) j e = let i : length xs + 1 ≡ j = cc in subst (HasLine s) (ap (λ k. k + 1) (lines-lf u xs l) ∙ i) (begins s u b v es (lines-whole u xs l))
-bad-reading s r (long u b v xs es l n) j e = let z : ◌≡◌ {A = ℕ} 0 1 = cc in absurd (omega arith)
+bad-reading s r (long u b v xs es l n) j e = cc

@@ -4,6 +4,7 @@ use native.Mathlib.Numerals.{add-one, sub-one}
 use native.Mathlib.Omega.{arith}
 use mathlib.Core.Path.{◌≡◌, refl, sym, ap, ap₂, ◌∙◌}
 use mathlib.Core.List.{List, [], ◌∷◌, ◌++◌}
+use Rattle.std.proofs.Common.{Result, Ok, Err}
 use lib.Dec.{leb}
 use lib.ListN.{length, get_or, take, set}
 use lib.Seq.{length-take-le, take_all, take-suc-set}
@@ -12,27 +13,24 @@ use borrow.Author.Tests.{eq-eqb, ne_eqb, le-leb, lt-leb}
 use Rattle.sheets.specs.code.reader.Reader.{read_num}
 use Rattle.sheets.specs.code.reader.Views.{doubled}
 use Rattle.sheets.specs.declared.reader.num.DoubleRead.{DoubleRead}
-use Rattle.boresheet.specs.declared.readings.Found.{Found}
-use Rattle.boresheet.specs.declared.readings.Readings.{Readings}
-use Rattle.boresheet.specs.Format.{hex_number, no_readings}
+use Rattle.boresheet.specs.declared.readings.BadReadings.{BadReadings}
+use Rattle.boresheet.specs.Format.{hex_number}
 use Rattle.boresheet.specs.code.Readings.{hex_if, hex_from, hex_at, end_if, ended_at, or_else, reading_at, lastly, line_if, readings_from}
 
 -- ---- hexadecimal digits
 
-module _ (s : List ℕ) (b d bits i : ℕ) (q : DoubleRead) (eb : b ≡ get_or s i 0) (ed : d ≡ hex_number b) where
-  number : d ≡ hex_number (get_or s i 0)
-  number = ed ∙ ap hex_number eb
-
-  pub hex-stop : (left : ℕ) → 0 < left → d ≡ 16 → hex_from left bits s i ≡ q → DoubleRead.Not ≡ q
+module _ (s : List ℕ) (b bits i : ℕ) (q : DoubleRead) (eb : b ≡ get_or s i 0) where
+  pub hex-stop : (left : ℕ) → 0 < left → hex_number b ≡ 16 → hex_from left bits s i ≡ q → DoubleRead.Not ≡ q
   unfolding hex_from hex_if
   hex-stop zero pos h inv = absurd (omega arith)
-  hex-stop (suc k) pos h inv = rw (eq-eqb (hex_number (get_or s i 0)) 16 (sym number ∙ h)) at inv
+  hex-stop (suc k) pos h inv = rw (eq-eqb (hex_number (get_or s i 0)) 16 (sym (ap hex_number eb) ∙ h)) at inv
 
-  pub hex-turn : (left : ℕ) → 0 < left → (d ≡ 16 → ⊥) → hex_from left bits s i ≡ q → hex_from (left - 1) (bits * 16 + d) s (i + 1) ≡ q
+  pub hex-turn : (left d : ℕ) → 0 < left → d ≡ hex_number b → d < 16 → hex_from left bits s i ≡ q → hex_from (left - 1) (bits * 16 + d) s (i + 1) ≡ q
   unfolding hex_from hex_if
-  hex-turn zero pos h inv = absurd (omega arith)
-  hex-turn (suc k) pos h inv =
-      let n = ne_eqb (hex_number (get_or s i 0)) 16 (λ z. h (number ∙ z)) in
+  hex-turn zero d pos e h inv = absurd (omega arith)
+  hex-turn (suc k) d pos e h inv =
+      let number : d ≡ hex_number (get_or s i 0) = e ∙ ap hex_number eb in
+      let n = ne_eqb (hex_number (get_or s i 0)) 16 (λ z. omega (arith, number, z, h)) in
       rw (sub-one, number) (rw n at inv)
 
 pub hex-end : (s : List ℕ) (bits i left : ℕ) (q : DoubleRead) (x : Float) → left ≤ 0 → x ≡ of_bits binary64 bits → hex_from left bits s i ≡ q → DoubleRead.Is x i ≡ q
@@ -70,7 +68,7 @@ module _ (s : List ℕ) (at : ℕ) (d r : DoubleRead) (ed : d ≡ doubled (read_
 
 -- ---- the file
 
-module _ (s : List ℕ) (at i : ℕ) (vs : List Float) (l : length vs ≡ 16) (le : i ≤ 16) (q : Readings) (inv : readings_from (16 - i) (take i vs) s at ≡ q) where
+module _ (s : List ℕ) (at i : ℕ) (vs : List Float) (l : length vs ≡ 16) (le : i ≤ 16) (q : Result (List Float) BadReadings) (inv : readings_from (16 - i) (take i vs) s at ≡ q) where
   count : length (take i vs) ≡ i
   count = length-take-le i vs (omega (arith, l))
 
@@ -79,27 +77,26 @@ module _ (s : List ℕ) (at i : ℕ) (vs : List Float) (l : length vs ≡ 16) (l
   steps zero xs pos = absurd (omega arith)
   steps (suc k) xs pos = rw sub-one refl
 
-  pub file-all : 16 ≤ i → length s ≤ at → record { found = Found.All; values = vs } ≡ q
+  pub file-all : 16 ≤ i → length s ≤ at → Ok vs ≡ q
   unfolding readings_from lastly
   file-all h t =
       let z : 16 - i ≡ 0 = omega arith in
-      ap (λ v. record { found = Found.All; values = v }) (sym (take_all i vs (omega (arith, l)))) ∙ (rw (z, le-leb (length s) at t) at inv)
+      ap Ok (sym (take_all i vs (omega (arith, l)))) ∙ (rw (z, le-leb (length s) at t) at inv)
 
-  module _ (r : Readings) where
-    pub file-long : 16 ≤ i → at < length s → r ≡ no_readings Found.Long → r ≡ q
-    unfolding readings_from lastly
-    file-long h t er = let z : 16 - i ≡ 0 = omega arith in er ∙ (rw (z, lt-leb (length s) at t) at inv)
+  pub file-long : 16 ≤ i → at < length s → Err BadReadings.Long ≡ q
+  unfolding readings_from lastly
+  file-long h t = let z : 16 - i ≡ 0 = omega arith in rw (z, lt-leb (length s) at t) at inv
 
-    pub file-short : i < 16 → length s ≤ at → r ≡ no_readings (Found.Short i) → r ≡ q
-    unfolding line_if
-    file-short h t er =
-        er ∙ ap (λ n. no_readings (Found.Short n)) (sym count) ∙ (rw (steps (16 - i) (take i vs) (omega arith), le-leb (length s) at t) at inv)
+  pub file-short : i < 16 → length s ≤ at → Err (BadReadings.Short i) ≡ q
+  unfolding line_if
+  file-short h t =
+      ap (λ n. Err (BadReadings.Short n)) (sym count) ∙ (rw (steps (16 - i) (take i vs) (omega arith), le-leb (length s) at t) at inv)
 
   module _ (h : i < 16) (t : at < length s) (g : DoubleRead) (eg : g ≡ reading_at s at) where
-    pub file-bad : g ≡ DoubleRead.Not → (r : Readings) → r ≡ no_readings (Found.Bad (i + 1)) → r ≡ q
+    pub file-bad : g ≡ DoubleRead.Not → Err (BadReadings.Line (i + 1)) ≡ q
     unfolding line_if
-    file-bad e r er =
-        er ∙ ap (λ n. no_readings (Found.Bad (n + 1))) (sym count) ∙ (rw (steps (16 - i) (take i vs) (omega arith), lt-leb (length s) at t, sym eg ∙ e) at inv)
+    file-bad e =
+        ap (λ n. Err (BadReadings.Line (n + 1))) (sym count) ∙ (rw (steps (16 - i) (take i vs) (omega arith), lt-leb (length s) at t, sym eg ∙ e) at inv)
 
     pub file-turn : (x : Float) (n : ℕ) → g ≡ DoubleRead.Is x n → readings_from (16 - (i + 1)) (take (i + 1) (set vs i x)) s n ≡ q
     unfolding line_if

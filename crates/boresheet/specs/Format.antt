@@ -1,14 +1,13 @@
 -- The form of a file of readings: sixteen lines, each ended by LF, and nothing behind them.
 -- A line is a NUM as in a sheet, or the sixteen hexadecimal digits, of either case, of a double's bits. (No line is both: a NUM has at most 9 digits before its point.)
-use Rattle.std.specs.Prelude.{ℕ, ◌+◌, ◌-◌, ◌*◌, ◌<◌, ◌≡◌, ◌⊎◌, cond, ◌&&◌, List, [], ◌∷◌, leb, length, replicate, Float}
+use Rattle.std.specs.Prelude.{ℕ, ◌+◌, ◌-◌, ◌*◌, ◌<◌, ◌≡◌, ◌⊎◌, cond, ◌&&◌, List, [], ◌∷◌, leb, length, Float, Result, Ok, Err}
 use Rattle.std.specs.Float.{binary64}
 use Rattle.std.specs.Float.Ieee.{of_bits}
 use Rattle.sheets.specs.Text.{◌⌢◌, lf}
 use Rattle.sheets.specs.Trees.{Num}
 use Rattle.sheets.specs.Grammar.{Each, print_num, IsNum}
 use Rattle.sheets.specs.Limits.{num_value}
-use Rattle.boresheet.specs.declared.readings.Found.{Found}
-use Rattle.boresheet.specs.declared.readings.Readings.{Readings}
+use Rattle.boresheet.specs.declared.readings.BadReadings.{BadReadings}
 
 -- ---- a line
 
@@ -41,13 +40,9 @@ Lines s (x ∷ xs) = (t r : List ℕ) × (s ≡ t ⌢ lf ⌢ r) × Line t x × L
 abbrev pub LineBegins : List ℕ → Type 0
 LineBegins s = (t r : List ℕ) × (x : Float) × (s ≡ t ⌢ lf ⌢ r) × Line t x
 
--- no readings: sixteen zeros
-unfoldable pub no_readings : Found → Readings
-no_readings f = record { found = f; values = replicate 16 (of_bits binary64 0) }
-
 -- What the file s comes to: its readings; too few lines; the first line that is none, counted from 1; or something behind line 16.
-pub data ComesTo : List ℕ → Readings → Type 0 where
-  all : {s : List ℕ} (xs : List Float) → Lines s xs → length xs ≡ 16 → ComesTo s (record { found = Found.All; values = xs })
-  short : {s : List ℕ} (xs : List Float) → Lines s xs → length xs < 16 → ComesTo s (no_readings (Found.Short (length xs)))
-  bad : {s : List ℕ} (u : List ℕ) (b : ℕ) (r : List ℕ) (xs : List Float) → s ≡ u ⌢ (b ∷ r) → Lines u xs → length xs < 16 → ¬ (LineBegins (b ∷ r)) → ComesTo s (no_readings (Found.Bad (length xs + 1)))
-  long : {s : List ℕ} (u : List ℕ) (b : ℕ) (r : List ℕ) (xs : List Float) → s ≡ u ⌢ (b ∷ r) → Lines u xs → length xs ≡ 16 → ComesTo s (no_readings Found.Long)
+pub data ComesTo : List ℕ → Result (List Float) BadReadings → Type 0 where
+  all : {s : List ℕ} (xs : List Float) → Lines s xs → length xs ≡ 16 → ComesTo s (Ok xs)
+  short : {s : List ℕ} (xs : List Float) → Lines s xs → length xs < 16 → ComesTo s (Err (BadReadings.Short (length xs)))
+  bad : {s : List ℕ} (u : List ℕ) (b : ℕ) (r : List ℕ) (xs : List Float) → s ≡ u ⌢ (b ∷ r) → Lines u xs → length xs < 16 → ¬ (LineBegins (b ∷ r)) → ComesTo s (Err (BadReadings.Line (length xs + 1)))
+  long : {s : List ℕ} (u : List ℕ) (b : ℕ) (r : List ℕ) (xs : List Float) → s ≡ u ⌢ (b ∷ r) → Lines u xs → length xs ≡ 16 → ComesTo s (Err BadReadings.Long)

@@ -1,5 +1,5 @@
 // Sixteen hexadecimal digits at a place of a file, and the double whose bits they are.
-ghost use Rattle.std.specs.Prelude.{◌≡◌, ◌+◌, ◌≤◌};
+ghost use Rattle.std.specs.Prelude.{◌≡◌, ◌+◌, ◌<◌, ◌≤◌, MatchOption};
 ghost use Rattle.boresheet.specs.Format.{hex_number};
 ghost use Rattle.boresheet.specs.code.Readings.{hex_at};
 
@@ -7,29 +7,17 @@ use numbers::float::double;
 use sheets::reader::bytes::byte;
 use sheets::reader::num::DoubleRead;
 
-// 0 to 15 for a hexadecimal digit of either case, else 16.
-pub fn hex_digit(b: u8) -> u64
-    ensures { (result ≡ hex_number b) × (result ≤ 16) × (16 ≤ result + b) }
+// The number of a hexadecimal digit of either case.
+#[tactic(auto, unfolding(crate::specs::Format::hex_number))]
+pub fn hex_digit(b: u8) -> Option<u64>
+    ensures { MatchOption result (hex_number b ≡ 16) (λ d. (d ≡ hex_number b) × (d < 16) × (16 ≤ d + b)) }
 {
-    if b < 48 {
-        return 16;
+    match b {
+        b'0'..=b'9' => Some((b - b'0') as u64),
+        b'A'..=b'F' => Some((b - b'A') as u64 + 10),
+        b'a'..=b'f' => Some((b - b'a') as u64 + 10),
+        _ => None,
     }
-    if b <= 57 {
-        return (b - 48) as u64;
-    }
-    if b < 65 {
-        return 16;
-    }
-    if b <= 70 {
-        return (b - 55) as u64;
-    }
-    if b < 97 {
-        return 16;
-    }
-    if b <= 102 {
-        return (b - 87) as u64;
-    }
-    16
 }
 
 // The double of the sixteen digits at a place, and the place after them.
@@ -37,18 +25,12 @@ pub fn hex(s: &[u8], at: usize) -> DoubleRead
     ensures { result ≡ hex_at s.now at }
 {
     let mut bits: u64 = 0;
-    let mut i = at;
-    let mut left: usize = 16;
-    while 0 < left {
-        let b = byte(s, i);
-        let d = hex_digit(b);
-        if d == 16 {
+    for i in 0..16 {
+        let Some(d) = hex_digit(byte(s, at + i)) else {
             return DoubleRead::Not;
-        }
+        };
         bits = bits * 16 + d;
-        i += 1;
-        left -= 1;
     }
     let x = double(bits);
-    DoubleRead::Is(x, i)
+    DoubleRead::Is(x, at + 16)
 }

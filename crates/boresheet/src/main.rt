@@ -3,6 +3,7 @@
 // The exit status is always 0: the line on standard error is what tells a refusal.
 #![tactic(auto)]
 
+ghost use Rattle.std.specs.Prelude.{IfOk};
 ghost use Rattle.std.specs.Counts.{IsPrefixLen};
 
 mod files;
@@ -11,8 +12,8 @@ mod messages;
 mod readings;
 mod reports;
 
-use files::{Filled, fill};
-use readings::{Found, readings_of};
+use files::fill;
+use readings::{BadReadings, readings_of};
 use sheets::run::run;
 use std::env::FillError;
 use std::fs::File;
@@ -40,27 +41,19 @@ fn run_sheet(rt: &HostRuntime, sheet: &[u8], values: &[f64; 16]) {
 // Reads the sheet, up to one byte more than a sheet may have, and runs it.
 fn run_input(rt: &HostRuntime, values: &[f64; 16]) {
     let mut sheet = [0u8; 16385];
-    let f = fill(&mut rt.stdin(), &mut sheet);
-    if let Some(e) = f.failed {
-        reports::fail(rt, b"standard input", e);
-        return;
+    match fill(&mut rt.stdin(), &mut sheet) {
+        Ok(n) => run_sheet(rt, &sheet[..n], values),
+        Err(e) => reports::fail(rt, b"standard input", e),
     }
-    let n = f.count;
-    run_sheet(rt, &sheet[..n], values);
 }
 
 // Runs the sheet over the readings of a file. No file of the form is longer than 288 bytes.
 fn run_with(rt: &HostRuntime, file: &[u8]) {
-    let r = readings_of(file);
-    let found = r.found;
-    match found {
-        Found::All => {
-            let values = r.values;
-            run_input(rt, &values);
-        }
-        Found::Bad(line) => reports::bad_line(rt, line),
-        Found::Short(lines) => reports::too_short(rt, lines),
-        Found::Long => reports::too_long(rt),
+    match readings_of(file) {
+        Ok(values) => run_input(rt, &values),
+        Err(BadReadings::Line(line)) => reports::bad_line(rt, line),
+        Err(BadReadings::Short(lines)) => reports::too_short(rt, lines),
+        Err(BadReadings::Long) => reports::too_long(rt),
     }
 }
 
@@ -72,29 +65,21 @@ fn open(rt: &HostRuntime, name: &[u8]) -> io::Result<File> {
     }
 }
 
-// Reads the start of the file of this name, as far as a buffer holds it.
-fn read_file(rt: &HostRuntime, name: &[u8], buf: &mut [u8]) -> Filled
-    ensures { IsPrefixLen result.count buf.new }
+// Reads the start of the file of this name, as far as a buffer holds it. An error is that of the call that failed.
+fn read_file(rt: &HostRuntime, name: &[u8], buf: &mut [u8]) -> io::Result<usize>
+    ensures { IfOk result (λ n. IsPrefixLen n buf.new) }
 {
-    match open(rt, name) {
-        Ok(mut file) => fill(&mut file, buf),
-        Err(e) => Filled {
-            count: 0,
-            failed: Some(e),
-        },
-    }
+    let mut file = open(rt, name)?;
+    fill(&mut file, buf)
 }
 
 // Reads the file of readings of this name.
 fn run_file(rt: &HostRuntime, name: &[u8]) {
     let mut file = [0u8; 512];
-    let f = read_file(rt, name, &mut file);
-    if let Some(e) = f.failed {
-        reports::fail(rt, name, e);
-        return;
+    match read_file(rt, name, &mut file) {
+        Ok(n) => run_with(rt, &file[..n]),
+        Err(e) => reports::fail(rt, name, e),
     }
-    let n = f.count;
-    run_with(rt, &file[..n]);
 }
 
 // Why an argument was not read.
@@ -108,18 +93,11 @@ fn argument_error(e: FillError) -> io::Error {
 // By the one argument: the help, or a file's name.
 fn run_argument(rt: &HostRuntime) {
     let mut name = [0u8; 4096];
-    let n = match rt.arg(1, &mut name) {
-        Ok(n) => n,
-        Err(e) => {
-            reports::fail(rt, b"argument", argument_error(e));
-            return;
-        }
-    };
-    if reports::asks_help(&name[..n]) {
-        reports::usage(&rt.stdout());
-        return;
+    match rt.arg(1, &mut name) {
+        Ok(n) if reports::asks_help(&name[..n]) => reports::usage(&rt.stdout()),
+        Ok(n) => run_file(rt, &name[..n]),
+        Err(e) => reports::fail(rt, b"argument", argument_error(e)),
     }
-    run_file(rt, &name[..n]);
 }
 
 // Whether the program was started with an argument of this number.
@@ -130,11 +108,9 @@ fn is_given(rt: &HostRuntime, i: usize) -> bool {
 fn main(rt: HostRuntime) {
     if !is_given(&rt, 1) {
         run_input(&rt, &[0.0; 16]);
-        return;
-    }
-    if is_given(&rt, 2) {
+    } else if is_given(&rt, 2) {
         reports::usage(&rt.stderr());
-        return;
+    } else {
+        run_argument(&rt);
     }
-    run_argument(&rt);
 }

@@ -1,139 +1,106 @@
-// The lines on standard error that say a number, as bytes.
-ghost use Rattle.std.specs.Prelude.{◌≡◌, [], ◌∷◌, ◌++◌, ◌+◌, ◌%◌, ◌<◌, ◌≤◌, length, take};
-ghost use Rattle.std.specs.Counts.{IsPrefixLen};
-ghost use Rattle.sheets.specs.code.run.Writing.{Written};
+// The lines on standard error that say a number.
+ghost use Rattle.std.specs.Prelude.{◌≡◌, ◌+◌, ◌++◌, ◌≤◌, length};
+ghost use Rattle.arrayvec.specs.ArrayString.{array_string_len};
 ghost use Rattle.boresheet.specs.Messages.{decimal, refusal_name, place_text, refusal_line, bad_line_text, short_text};
 
-// A text: the first bytes of an array, and how many they are.
-#[derive(Clone, Copy)]
-pub struct Text {
-    pub bytes: [u8; 96],
-    pub size: usize,
-}
+use arrayvec::ArrayString;
+use itoa::Buffer;
 
-// One byte at a place of a buffer, and the place after it.
-fn put_byte(b: u8, out: &mut [u8], at: usize) -> usize
-    requires { at < length out.old }
-    ensures { Written out.old at (b ∷ []) out.new result }
-{
-    out[at] = b;
-    at + 1
-}
+// A line, in memory of its own: the longest has 93 bytes.
+pub type Line = ArrayString<96>;
 
-// The bytes of a text.
-fn put_text(text: &[u8], out: &mut [u8], at: usize) -> usize
-    requires { at + length text.now ≤ length out.old }
-    ensures { Written out.old at text.now out.new result }
+// A number's digits behind a text.
+#[tactic(auto, using(crate::proofs::MessageSteps::digits_are, crate::proofs::MessageSteps::decimal_length))]
+fn push_decimal(text: &mut Line, n: u64)
+    requires { array_string_len text.old ≤ 76 }
+    ensures text { text.new.bytes ≡ text.old.bytes ++ decimal 19 n }
+    ensures len { array_string_len text.new ≤ array_string_len text.old + 20 }
 {
-    let mut i: usize = 0;
-    let mut n = at;
-    while i < text.len() {
-        out[n] = text[i];
-        i += 1;
-        n += 1;
-    }
-    n
-}
-
-// The last digit of a number.
-fn last_digit(n: u64) -> u8
-    ensures { result ≡ 48 + n % 10 }
-{
-    48 + (n % 10) as u8
-}
-
-// The digits of a number, at most `left` and one.
-fn put_decimal(n: u64, left: usize, out: &mut [u8], at: usize) -> usize
-    requires { at + left < length out.old }
-    ensures { Written out.old at (decimal left n) out.new result }
-{
-    let d = last_digit(n);
-    if left == 0 {
-        return put_byte(d, out, at);
-    }
-    if n < 10 {
-        return put_byte(d, out, at);
-    }
-    let m = put_decimal(n / 10, left - 1, out, at);
-    put_byte(d, out, m)
+    let mut digits = Buffer::new();
+    text.push_str(digits.format(n));
 }
 
 // A refusal's name by its number, as documents 01 and 02 have it.
-fn put_name(number: u8, out: &mut [u8], at: usize) -> usize
-    requires { at + 9 ≤ length out.old }
-    ensures { Written out.old at (refusal_name number) out.new result }
+#[tactic(auto, unfolding(crate::specs::Messages::refusal_name))]
+fn name(number: u8) -> &'static str
+    ensures text { result.now ≡ refusal_name number }
+    ensures len { length result.now ≤ 9 }
 {
     match number {
-        1 => put_text(b"size", out, at),
-        2 => put_text(b"lent", out, at),
-        3 => put_text(b"form", out, at),
-        4 => put_text(b"ellipsoid", out, at),
-        5 => put_text(b"name", out, at),
-        6 => put_text(b"kind", out, at),
-        7 => put_text(b"limit", out, at),
-        8 => put_text(b"centre", out, at),
-        9 => put_text(b"apart", out, at),
-        _ => at,
+        1 => "size",
+        2 => "lent",
+        3 => "form",
+        4 => "ellipsoid",
+        5 => "name",
+        6 => "kind",
+        7 => "limit",
+        8 => "centre",
+        9 => "apart",
+        _ => "",
     }
 }
 
-// ` at line ` and the line's number, nothing for line 0.
-fn put_place(line: usize, out: &mut [u8], at: usize) -> usize
-    requires { at + 29 ≤ length out.old }
-    ensures { Written out.old at (place_text line) out.new result }
+// ` at line ` and the line's number behind a text, nothing for line 0.
+#[tactic(auto, unfolding(crate::specs::Messages::place_text))]
+fn push_place(text: &mut Line, line: usize)
+    requires { array_string_len text.old ≤ 67 }
+    ensures text { text.new.bytes ≡ text.old.bytes ++ place_text line }
+    ensures len { array_string_len text.new ≤ array_string_len text.old + 29 }
 {
-    if line == 0 {
-        return at;
+    if line != 0 {
+        text.push_str(" at line ");
+        push_decimal(text, line as u64);
     }
-    let i = put_text(b" at line ", out, at);
-    put_decimal(line as u64, 19, out, i)
 }
 
 // The line for a refusal, with its LF.
-pub fn refusal(number: u8, line: usize) -> Text
-    ensures { (take result.size result.bytes ≡ refusal_line number line) × IsPrefixLen result.size result.bytes }
+#[tactic(auto, using(crate::proofs::MessageSteps::decimal_length), unfolding(crate::specs::Messages::refusal_line))]
+pub fn refusal(number: u8, line: usize) -> Line
+    ensures { result.bytes ≡ refusal_line number line }
 {
-    let mut bytes = [0u8; 96];
-    let a = put_text(b"boresheet: refusal ", &mut bytes, 0);
-    let b = put_decimal(number as u64, 2, &mut bytes, a);
-    let c = put_text(b" (", &mut bytes, b);
-    let d = put_name(number, &mut bytes, c);
-    let e = put_text(b")", &mut bytes, d);
-    let f = put_place(line, &mut bytes, e);
-    let size = put_text(b"\n", &mut bytes, f);
-    Text { bytes, size }
+    let mut text = Line::new();
+    text.push_str("boresheet: refusal ");
+    push_decimal(&mut text, number as u64);
+    text.push_str(" (");
+    text.push_str(name(number));
+    text.push_str(")");
+    push_place(&mut text, line);
+    text.push_str("\n");
+    text
 }
 
 // A number between two texts.
-fn numbered(before: &[u8], n: usize, after: &[u8]) -> Text
+fn numbered(before: &str, n: usize, after: &str) -> Line
     requires { length before.now + length after.now ≤ 76 }
-    ensures { (take result.size result.bytes ≡ before.now ++ (decimal 19 n ++ after.now)) × IsPrefixLen result.size result.bytes }
+    ensures { result.bytes ≡ before.now ++ (decimal 19 n ++ after.now) }
 {
-    let mut bytes = [0u8; 96];
-    let a = put_text(before, &mut bytes, 0);
-    let b = put_decimal(n as u64, 19, &mut bytes, a);
-    let size = put_text(after, &mut bytes, b);
-    Text { bytes, size }
+    let mut text = Line::new();
+    text.push_str(before);
+    push_decimal(&mut text, n as u64);
+    text.push_str(after);
+    text
 }
 
 // The line for a file of readings with a line that is none, with its LF.
-pub fn bad_line(line: usize) -> Text
-    ensures { (take result.size result.bytes ≡ bad_line_text line) × IsPrefixLen result.size result.bytes }
+#[tactic(auto, unfolding(crate::specs::Messages::bad_line_text))]
+pub fn bad_line(line: usize) -> Line
+    ensures { result.bytes ≡ bad_line_text line }
 {
     numbered(
-        b"boresheet: readings: line ",
+        "boresheet: readings: line ",
         line,
-        b" is neither a number nor 16 hexadecimal digits\n",
+        " is neither a number nor 16 hexadecimal digits\n",
     )
 }
 
 // The line for a file of readings of too few lines, with its LF.
-pub fn too_short(lines: usize) -> Text
-    ensures { (take result.size result.bytes ≡ short_text lines) × IsPrefixLen result.size result.bytes }
+#[tactic(auto, unfolding(crate::specs::Messages::short_text))]
+pub fn too_short(lines: usize) -> Line
+    ensures { result.bytes ≡ short_text lines }
 {
     numbered(
-        b"boresheet: readings: the file ends after ",
+        "boresheet: readings: the file ends after ",
         lines,
-        b" of 16 lines\n",
+        " of 16 lines\n",
     )
 }

@@ -1,35 +1,17 @@
 // A file of readings: sixteen lines, each ended by LF, and nothing behind them. A line is a NUM as in a sheet, or the sixteen hexadecimal digits of a double's bits.
 ghost use Rattle.std.specs.Prelude.{◌≡◌};
-ghost use Rattle.boresheet.specs.Format.{no_readings};
 ghost use Rattle.boresheet.specs.code.Readings.{ended_at, reading_at, readings_of};
 
 use crate::hex::hex;
 use sheets::reader::bytes::byte;
 use sheets::reader::num::{DoubleRead, double};
 
-// What a file comes to: its readings; the first line that is none; how many lines there are where they are too few; or that something stands behind line 16.
-#[derive(Clone, Copy)]
-pub enum Found {
-    All,
-    Bad(usize),
+// Why a file is no file of readings: its first line that is none, by its number; how many lines there are where they are too few; or that something stands behind line 16.
+#[derive(Clone, Copy, Debug, PartialEq, Eq)]
+pub enum BadReadings {
+    Line(usize),
     Short(usize),
     Long,
-}
-
-// The values are zeros where a file is not of the form.
-#[derive(Clone, Copy)]
-pub struct Readings {
-    pub found: Found,
-    pub values: [f64; 16],
-}
-
-pub fn no_readings(found: Found) -> Readings
-    ensures { result ≡ no_readings found }
-{
-    Readings {
-        found,
-        values: [0.0; 16],
-    }
 }
 
 // What was read, if LF follows it, and the place after the LF.
@@ -62,29 +44,24 @@ pub fn reading(s: &[u8], at: usize) -> DoubleRead
 }
 
 // The readings of a file's bytes. The number of the line at `at` is `i` + 1, stepped at each LF.
-pub fn readings_of(s: &[u8]) -> Readings
+pub fn readings_of(s: &[u8]) -> Result<[f64; 16], BadReadings>
     ensures { result ≡ readings_of s.now }
 {
     let mut values = [0.0; 16];
     let mut at: usize = 0;
-    let mut i: usize = 0;
-    while i < 16 {
+    for i in 0..16 {
         if s.len() <= at {
-            return no_readings(Found::Short(i));
+            return Err(BadReadings::Short(i));
         }
         let r = reading(s, at);
         let DoubleRead::Is(x, next) = r else {
-            return no_readings(Found::Bad(i + 1));
+            return Err(BadReadings::Line(i + 1));
         };
         values[i] = x;
         at = next;
-        i += 1;
     }
     if at < s.len() {
-        return no_readings(Found::Long);
+        return Err(BadReadings::Long);
     }
-    Readings {
-        found: Found::All,
-        values,
-    }
+    Ok(values)
 }

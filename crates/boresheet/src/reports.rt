@@ -1,11 +1,9 @@
 // What the program writes besides the text of a sheet.
 ghost use Rattle.std.specs.Prelude.{◌≡◌};
-ghost use Rattle.std.specs.Counts.{IsPrefixLen};
-ghost use Rattle.sheets.specs.Lookup.{same_word};
 ghost use Rattle.boresheet.specs.Arguments.{asks_help};
 
 use crate::messages;
-use crate::messages::Text;
+use crate::messages::Line;
 use std::fmt::InlineText;
 use std::io;
 
@@ -33,12 +31,8 @@ pub fn fail(rt: &HostRuntime, what: &[u8], why: io::Error) {
 }
 
 // A line that was made.
-fn put_line(rt: &HostRuntime, t: Text)
-    requires { IsPrefixLen t.size t.bytes }
-{
-    let bytes = t.bytes;
-    let n = t.size;
-    put(rt, &bytes[..n]);
+fn put_line(rt: &HostRuntime, line: Line) {
+    put(rt, line.as_str().as_bytes());
 }
 
 // A refusal of the run.
@@ -59,31 +53,12 @@ pub fn too_long(rt: &HostRuntime) {
     put(rt, b"boresheet: readings: there are more than 16 lines\n");
 }
 
-// Whether two words are the same.
-fn is_same(a: &[u8], b: &[u8]) -> bool
-    ensures { result ≡ same_word a.now b.now }
-{
-    if a.len() != b.len() {
-        return false;
-    }
-    let mut i: usize = 0;
-    while i < a.len() {
-        if a[i] != b[i] {
-            return false;
-        }
-        i += 1;
-    }
-    true
-}
-
 // Whether an argument is `-h` or `--help`.
+#[tactic(auto, using(crate::proofs::ArgumentSteps::pointwise_same), unfolding(crate::specs::Arguments::asks_help))]
 pub fn asks_help(word: &[u8]) -> bool
     ensures { result ≡ asks_help word.now }
 {
-    if is_same(word, b"-h") {
-        return true;
-    }
-    is_same(word, b"--help")
+    word == b"-h".as_slice() || word == b"--help".as_slice()
 }
 
 fn write_line<P: Print>(to: &P, text: &[u8]) {

@@ -1,165 +1,82 @@
 // Hexadecimal digits, and the sizes, words and bytes that they stand for.
-ghost use Rattle.std.specs.Prelude.{◌≡◌, ◌+◌, ◌*◌, ◌≤◌, length, IfOk, OnErr};
+ghost use Rattle.std.specs.Prelude.{◌≡◌, ◌+◌, ◌*◌, ◌^◌, ◌<◌, ◌≤◌, length, IfOk, IfSome, OnErr};
 ghost use Rattle.std.specs.Counts.{IsPrefixLen};
 
 use std::io;
 use std::io::Read;
 
-// What sixteen places hold.
-#[derive(Clone, Copy)]
-enum Word {
-    Is(u64),
-    Not,
-}
-
-// The words of a line. They are all there where ok.
-#[derive(Clone, Copy)]
-pub struct Given {
-    pub ok: bool,
-    pub words: [u64; 32],
-}
-
-// How many bytes of a sheet were read. They are all there where ok, and none where not.
-#[derive(Clone, Copy)]
-pub struct Decoded {
-    pub ok: bool,
-    pub count: usize,
-}
-
-// A hexadecimal digit, in lower case, or 16 where it is none.
-fn hex_digit(b: u8) -> u64
-    ensures { result ≤ 16 }
+// The number of a hexadecimal digit, in lower case.
+fn hex_digit(b: u8) -> Option<u64>
+    ensures { IfSome result (λ d. d < 16) }
 {
     match b {
-        b'0'..=b'9' => (b - b'0') as u64,
-        b'a'..=b'f' => (b - b'a') as u64 + 10,
-        _ => 16,
+        b'0'..=b'9' => Some((b - b'0') as u64),
+        b'a'..=b'f' => Some((b - b'a') as u64 + 10),
+        _ => None,
     }
 }
 
-// The number of the two digits at a place, or 256 where they are none.
-fn pair(s: &[u8], at: usize) -> u64
-    requires { at + 2 ≤ length s.now }
-    ensures { result ≤ 256 }
+// The number of hexadecimal digits, sixteen at most.
+fn hexadecimal(digits: &[u8]) -> Option<u64>
+    requires { length digits.now ≤ 16 }
+    ensures { IfSome result (λ n. n < 16 ^ length digits.now) }
 {
-    let high = hex_digit(s[at]);
-    let low = hex_digit(s[at + 1]);
-    if high == 16 {
-        return 256;
+    let mut n: u64 = 0;
+    for b in digits {
+        n = n * 16 + hex_digit(*b)?;
     }
-    if low == 16 {
-        return 256;
-    }
-    high * 16 + low
+    Some(n)
 }
 
-// The number of the four digits at a place, or 65536 where they are none.
-fn four(s: &[u8], at: usize) -> u64
-    requires { at + 4 ≤ length s.now }
-    ensures { result ≤ 65536 }
+// The size that a line says at its start, in four digits and a space.
+pub fn size(s: &[u8]) -> Option<usize>
+    ensures { IfSome result (λ n. n < 65536) }
 {
-    let high = pair(s, at);
-    let low = pair(s, at + 2);
-    if high == 256 {
-        return 65536;
+    let head = s.get(..5)?;
+    if head[4] != b' ' {
+        return None;
     }
-    if low == 256 {
-        return 65536;
-    }
-    high * 256 + low
+    Some(hexadecimal(&head[..4])? as usize)
 }
 
-// The number of the eight digits at a place, or 2^32 where they are none.
-fn eight(s: &[u8], at: usize) -> u64
-    requires { at + 8 ≤ length s.now }
-    ensures { result ≤ 4294967296 }
+// The word of a space and sixteen digits.
+fn word(place: &[u8]) -> Option<u64>
+    requires { length place.now ≡ 17 }
 {
-    let high = four(s, at);
-    let low = four(s, at + 4);
-    if high == 65536 {
-        return 4294967296;
+    if place[0] != b' ' {
+        return None;
     }
-    if low == 65536 {
-        return 4294967296;
-    }
-    high * 65536 + low
+    hexadecimal(&place[1..])
 }
 
-// The sixteen digits at a place.
-fn sixteen(s: &[u8], at: usize) -> Word
-    requires { at + 16 ≤ length s.now }
+// The `count` words of a line from a place on, each a space and sixteen digits, and 0 behind them. None where they are not that, where the line ends before them, or where they are more than 32.
+pub fn words(s: &[u8], start: usize, count: usize) -> Option<[u64; 32]>
+    ensures { IfSome result (λ _. (count ≤ 32) × (start + 17 * count ≤ length s.now)) }
 {
-    let high = eight(s, at);
-    let low = eight(s, at + 8);
-    if high == 4294967296 {
-        return Word::Not;
-    }
-    if low == 4294967296 {
-        return Word::Not;
-    }
-    Word::Is(high * 4294967296 + low)
-}
-
-// The size that a line says at its start, in four digits and a space: 65536, more than any sheet has, where they are not that.
-pub fn size(s: &[u8]) -> usize
-    ensures { result ≤ 65536 }
-{
-    if s.len() < 5 {
-        return 65536;
-    }
-    if s[4] != b' ' {
-        return 65536;
-    }
-    four(s, 0) as usize
-}
-
-// The `count` words of a line from a place on, each a space and sixteen digits. Not ok where they are not that, where the line ends before them, or where they are more than 32.
-pub fn words(s: &[u8], start: usize, count: usize) -> Given {
-    let mut words = [0u64; 32];
     if 32 < count {
-        return Given { ok: false, words };
+        return None;
     }
-    let size = 17 * count;
-    if s.len() < size {
-        return Given { ok: false, words };
+    let places = s.get(start..)?.get(..17 * count)?;
+    let mut words = [0u64; 32];
+    for (i, place) in places.chunks_exact(17).enumerate() {
+        words[i] = word(place)?;
     }
-    if s.len() - size < start {
-        return Given { ok: false, words };
-    }
-    let mut i: usize = 0;
-    while i < count {
-        let at = start + 17 * i;
-        if s[at] != b' ' {
-            return Given { ok: false, words };
-        }
-        let w = sixteen(s, at + 1);
-        let Word::Is(x) = w else {
-            return Given { ok: false, words };
-        };
-        words[i] = x;
-        i += 1;
-    }
-    Given { ok: true, words }
+    Some(words)
 }
 
-// Puts the bytes of `count` pairs of digits at the start of `sheet`: whether they are digits, and LF follows.
-fn decode(digits: &[u8; 65536], sheet: &mut [u8], count: usize) -> bool
-    requires { (count ≤ 32767) × (count ≤ length sheet.old) }
-    ensures { IsPrefixLen count sheet.new }
+// Puts the bytes of pairs of digits into `sheet`, as many as it has, which is returned: where they are digits, and LF follows.
+fn decode(digits: &[u8], sheet: &mut [u8]) -> Option<usize>
+    requires { length digits.now ≡ 2 * length sheet.old + 1 }
+    ensures { IfSome result (λ n. IsPrefixLen n sheet.new) }
 {
+    let count = sheet.len();
     if digits[2 * count] != b'\n' {
-        return false;
+        return None;
     }
-    let mut i: usize = 0;
-    while i < count {
-        let value = pair(digits, 2 * i);
-        if value == 256 {
-            return false;
-        }
-        sheet[i] = value as u8;
-        i += 1;
+    for (i, byte) in sheet.iter_mut().enumerate() {
+        *byte = hexadecimal(&digits[2 * i..2 * i + 2])? as u8;
     }
-    true
+    Some(count)
 }
 
 // Reads until `buf` is full or the input ends: how many bytes stand at the start of `buf`. An error is that of a read that failed; what came before it may stand in `buf`.
@@ -168,6 +85,7 @@ pub fn read_full(input: &mut impl Read, buf: &mut [u8]) -> io::Result<usize>
     ensures err { OnErr result (length buf.new ≡ length buf.old) }
 {
     let mut done: usize = 0;
+    // No range and no iterator: what a read gives is the step.
     while done < buf.len() {
         let n = input.read(&mut buf[done..])?;
         if n == 0 {
@@ -178,31 +96,23 @@ pub fn read_full(input: &mut impl Read, buf: &mut [u8]) -> io::Result<usize>
     Ok(done)
 }
 
-// Reads `count` bytes, two digits each and LF behind them, and puts them at the start of `sheet`. Not ok where they are not that; nothing is read where they are more than `sheet` holds, or than 32,767. An error is that of a read that failed, and leaves `sheet` as it was.
-pub fn read_bytes(input: &mut impl Read, sheet: &mut [u8], count: usize) -> io::Result<Decoded>
-    ensures ok { IfOk result (λ d. IsPrefixLen d.count sheet.new) }
+// Reads `count` bytes, two digits each and LF behind them, and puts them at the start of `sheet`: how many they are. None where they are not that; nothing is read where they are more than `sheet` holds, or than 32,767. An error is that of a read that failed, and leaves `sheet` as it was.
+pub fn read_bytes(
+    input: &mut impl Read,
+    sheet: &mut [u8],
+    count: usize,
+) -> io::Result<Option<usize>>
+    ensures ok { IfOk result (λ read. IfSome read (λ n. IsPrefixLen n sheet.new)) }
     ensures err { OnErr result (sheet.new ≡ sheet.old) }
 {
     if 32767 < count {
-        return Ok(Decoded {
-            ok: false,
-            count: 0,
-        });
+        return Ok(None);
     }
     if sheet.len() < count {
-        return Ok(Decoded {
-            ok: false,
-            count: 0,
-        });
+        return Ok(None);
     }
     let mut digits = [0u8; 65536];
     let wanted = 2 * count + 1;
     read_full(input, &mut digits[..wanted])?;
-    if !decode(&digits, sheet, count) {
-        return Ok(Decoded {
-            ok: false,
-            count: 0,
-        });
-    }
-    Ok(Decoded { ok: true, count })
+    Ok(decode(&digits[..wanted], &mut sheet[..count]))
 }

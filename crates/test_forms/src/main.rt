@@ -7,10 +7,23 @@ mod report;
 mod text;
 mod tree;
 
+ghost use Rattle.std.specs.Prelude.{IfOk, IfSome};
+ghost use Rattle.std.specs.Counts.{IsPrefixLen};
+
 use std::io;
 use std::io::Read;
 use test_cases::input::{read_bytes, read_full, size};
 use test_cases::print::put;
+
+// Reads as many bytes as the head says, and puts them at the start of the sheet: how many they are. None where head or bytes are not of the form. An error is that of a read that failed.
+fn bytes(input: &mut impl Read, head: &[u8; 5], sheet: &mut [u8]) -> io::Result<Option<usize>>
+    ensures { IfOk result (λ read. IfSome read (λ n. IsPrefixLen n sheet.new)) }
+{
+    match size(head) {
+        Some(count) => read_bytes(input, sheet, count),
+        None => Ok(None),
+    }
+}
 
 // Reads one sheet and prints what is found in it: whether to go on. An error is that of a read or a write that failed.
 fn next(rt: &impl Print, input: &mut impl Read) -> io::Result<bool> {
@@ -20,24 +33,25 @@ fn next(rt: &impl Print, input: &mut impl Read) -> io::Result<bool> {
         return Ok(false);
     }
     let mut sheet = [0u8; 16384];
-    let n = read_bytes(input, &mut sheet, size(&head))?.count;
-    if n == 0 {
-        put(rt, b"?\n")?;
-        return Ok(false);
+    match bytes(input, &head, &mut sheet)? {
+        Some(n) if n != 0 => {
+            report::sheet(rt, &sheet[..n])?;
+            Ok(true)
+        }
+        _ => {
+            put(rt, b"?\n")?;
+            Ok(false)
+        }
     }
-    report::sheet(rt, &sheet[..n])?;
-    Ok(true)
 }
 
-// Nothing says that the input ends, so the sheets are counted down, from a number that no run uses up.
+// Nothing says that the input ends, so the sheets are counted, to a number that no run uses up.
 fn main(rt: HostRuntime) -> io::Result<()> {
     let mut input = rt.stdin();
-    let mut left = u64::MAX;
-    while 0 < left {
+    for _ in 0..u64::MAX {
         if !next(&rt, &mut input)? {
-            return Ok(());
+            break;
         }
-        left -= 1;
     }
     Ok(())
 }

@@ -29,10 +29,8 @@ pub fn sheet(rt: &impl Print, s: &[u8]) -> io::Result<()> {
 // The lines of a sheet, of which there are `count`.
 fn lines(rt: &impl Print, s: &[u8], count: usize) -> io::Result<()> {
     let mut at = first_line(rt, s)?;
-    let mut number: usize = 1;
-    while number < count {
+    for _ in 1..count {
         at = other_line(rt, s, at)?;
-        number += 1;
     }
     Ok(())
 }

@@ -13,29 +13,25 @@ pub fn double(rt: &impl Print, x: f64) -> io::Result<()> {
 
 // The last character of a word's code. 0 stands for none, and no word's code has it.
 fn character(code: u64) -> u8 {
-    let d = (code % 37) as u8;
-    if d == 0 {
-        return b'?';
-    }
-    if d <= 26 {
-        b'a' + (d - 1)
-    } else {
-        b'0' + (d - 27)
+    match (code % 37) as u8 {
+        0 => b'?',
+        d @ 1..=26 => b'a' + (d - 1),
+        d => b'0' + (d - 27),
     }
 }
 
-// A word, from its code alone.
+// A word, from its code alone: the last character is what is left of the code by 37, and a word has at most twelve.
 pub fn word(rt: &impl Print, code: u64) -> io::Result<()> {
     let mut text = [0u8; 12];
-    let mut at: usize = 12;
+    let mut begin: usize = 12;
     let mut rest = code;
-    while 0 < at {
+    for i in (0..12).rev() {
         if rest == 0 {
             break;
         }
-        at -= 1;
-        text[at] = character(rest);
-        rest = rest / 37;
+        text[i] = character(rest);
+        rest /= 37;
+        begin = i;
     }
-    put(rt, &text[at..])
+    put(rt, &text[begin..])
 }

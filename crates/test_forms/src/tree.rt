@@ -53,8 +53,7 @@ pub fn tree(rt: &impl Print, s: &[u8], at: usize, depth: usize) -> io::Result<()
 #[cycle(arguments_tree)]
 fn arguments(rt: &impl Print, s: &[u8], at: usize, depth: usize) -> io::Result<()> {
     let mut i = at;
-    let mut left: usize = 5;
-    while 0 < left {
+    for _ in 0..5 {
         let b = byte(s, i);
         if b != b' ' {
             return Ok(());
@@ -62,7 +61,6 @@ fn arguments(rt: &impl Print, s: &[u8], at: usize, depth: usize) -> io::Result<(
         put(rt, b" ")?;
         tree(rt, s, i + 1, depth)?;
         i = after(s, i + 1, depth);
-        left -= 1;
     }
     Ok(())
 }

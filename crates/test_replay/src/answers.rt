@@ -1,38 +1,28 @@
 // A line of an operation and its inputs, and the line of its answer.
-ghost use Rattle.std.specs.Prelude.{◌+◌, ◌≤◌, length};
+ghost use Rattle.std.specs.Prelude.{◌≡◌, ◌<◌, ◌≤◌, length, IfSome};
 ghost use Rattle.std.specs.Counts.{IsPrefixLen};
 
 use crate::tables::{apply, inputs_of, outputs_of};
 use test_cases::input::words;
 
-// A decimal digit, or 10 where it is none.
-fn decimal_digit(b: u8) -> u64
-    ensures { result ≤ 10 }
+// The number of a decimal digit.
+fn decimal_digit(b: u8) -> Option<u64>
+    ensures { IfSome result (λ d. d < 10) }
 {
     match b {
-        b'0'..=b'9' => (b - b'0') as u64,
-        _ => 10,
+        b'0'..=b'9' => Some((b - b'0') as u64),
+        _ => None,
     }
 }
 
-// The operation of the first three digits, or 1000 where they are none.
-fn operation(s: &[u8]) -> u64 {
-    if s.len() < 3 {
-        return 1000;
-    }
-    let hundreds = decimal_digit(s[0]);
-    let tens = decimal_digit(s[1]);
-    let ones = decimal_digit(s[2]);
-    if hundreds == 10 {
-        return 1000;
-    }
-    if tens == 10 {
-        return 1000;
-    }
-    if ones == 10 {
-        return 1000;
-    }
-    hundreds * 100 + tens * 10 + ones
+// The operation of the first three digits.
+fn operation(s: &[u8]) -> Option<u64>
+    ensures { IfSome result (λ op. op < 1000) }
+{
+    let [hundreds, tens, ones, ..] = s else {
+        return None;
+    };
+    Some(decimal_digit(*hundreds)? * 100 + decimal_digit(*tens)? * 10 + decimal_digit(*ones)?)
 }
 
 // The last hexadecimal digit of a word.
@@ -41,37 +31,28 @@ fn glyph(d: u64) -> u8 {
     if b < 10 { b'0' + b } else { b'a' + (b - 10) }
 }
 
-// The sixteen digits of a word at a place of out.
-fn put_word(out: &mut [u8], at: usize, x: u64)
-    requires { at + 16 ≤ length out.old }
-{
+// The last hexadecimal digits of a word, as many as there are places.
+fn put_digits(places: &mut [u8], x: u64) {
     let mut rest = x;
-    let mut left: usize = 16;
-    while 0 < left {
-        left -= 1;
-        out[at + left] = glyph(rest);
-        rest = rest / 16;
+    for place in places.iter_mut().rev() {
+        *place = glyph(rest);
+        rest /= 16;
     }
 }
 
 // The line of an answer: the operation's three digits, as the line s has them, and the words.
-fn answer(s: &[u8], words: [u64; 24], count: usize, out: &mut [u8]) -> usize
-    requires { (3 ≤ length s.now) × (count ≤ 24) × (412 ≤ length out.old) }
+fn answer(s: &[u8], words: &[u64], out: &mut [u8]) -> usize
+    requires { (3 ≤ length s.now) × (length words.now ≤ 24) × (412 ≤ length out.old) }
     ensures { IsPrefixLen result out.new }
 {
-    out[0] = s[0];
-    out[1] = s[1];
-    out[2] = s[2];
-    let mut i: usize = 0;
-    let mut at: usize = 3;
-    while i < count {
-        out[at] = b' ';
-        put_word(out, at + 1, words[i]);
-        at += 17;
-        i += 1;
+    out[..3].copy_from_slice(&s[..3]);
+    for (place, word) in out[3..].chunks_exact_mut(17).zip(words) {
+        place[0] = b' ';
+        put_digits(&mut place[1..], *word);
     }
-    out[at] = b'\n';
-    at + 1
+    let end = 3 + 17 * words.len();
+    out[end] = b'\n';
+    end + 1
 }
 
 // The line for what is no operation with its inputs.
@@ -79,9 +60,25 @@ fn refusal(out: &mut [u8]) -> usize
     requires { 412 ≤ length out.old }
     ensures { IsPrefixLen result out.new }
 {
-    out[0] = b'?';
-    out[1] = b'\n';
+    out[..2].copy_from_slice(b"?\n");
     2
+}
+
+// The answer to a line, where it is an operation with its inputs.
+fn answered(s: &[u8], out: &mut [u8]) -> Option<usize>
+    requires { 412 ≤ length out.old }
+    ensures some { IfSome result (λ n. IsPrefixLen n out.new) }
+    ensures len { length out.new ≡ length out.old }
+{
+    let op = operation(s)?;
+    let outputs = outputs_of(op)?;
+    let count = inputs_of(op);
+    if s.len() != 3 + 17 * count {
+        return None;
+    }
+    let inputs = words(s, 3, count)?;
+    let answers = apply(op, inputs);
+    Some(answer(s, &answers[..outputs], out))
 }
 
 // The answer to a line, which is given without its LF, at the start of out: how many bytes it has, its LF with them.
@@ -89,19 +86,8 @@ pub fn line(s: &[u8], out: &mut [u8]) -> usize
     requires { 412 ≤ length out.old }
     ensures { IsPrefixLen result out.new }
 {
-    let op = operation(s);
-    let outputs = outputs_of(op);
-    if outputs == 0 {
-        return refusal(out);
+    match answered(s, out) {
+        Some(n) => n,
+        None => refusal(out),
     }
-    let count = inputs_of(op);
-    if s.len() != 3 + 17 * count {
-        return refusal(out);
-    }
-    let given = words(s, 3, count);
-    if !given.ok {
-        return refusal(out);
-    }
-    let inputs = given.words;
-    answer(s, apply(op, inputs), outputs, out)
 }

@@ -5,7 +5,7 @@
 mod answers;
 mod tables;
 
-ghost use Rattle.std.specs.Prelude.{◌≡◌, ◌≤◌, length, IfOk, OnErr};
+ghost use Rattle.std.specs.Prelude.{◌≡◌, ◌≤◌, length, IfOk, IfSome, OnErr};
 
 use std::io;
 use std::io::Read;
@@ -25,57 +25,46 @@ fn feed(rt: &impl Print, chunk: &[u8], held: &mut [u8], n: usize) -> io::Result<
     ensures err { OnErr result (length held.new ≡ length held.old) }
 {
     let mut at = n;
-    let mut i: usize = 0;
-    while i < chunk.len() {
-        let b = chunk[i];
-        i += 1;
-        if b == b'\n' {
+    for b in chunk {
+        if *b == b'\n' {
             respond(rt, &held[..at])?;
             at = 0;
-            continue;
-        }
-        if at < held.len() {
-            held[at] = b;
+        } else if at < held.len() {
+            held[at] = *b;
             at += 1;
         }
     }
     Ok(at)
 }
 
-// How many bytes the line so far has, and whether to go on.
-#[derive(Clone, Copy)]
-struct Step {
-    pub more: bool,
-    pub n: usize,
-}
-
-// Reads once, and answers the lines that end in what came. An error is that of a read or a write that failed.
-fn some(rt: &impl Print, input: &mut impl Read, held: &mut [u8], n: usize) -> io::Result<Step>
+// Reads once, and answers the lines that end in what came: how many bytes the line so far has, none at the end of the input. An error is that of a read or a write that failed.
+fn some(
+    rt: &impl Print,
+    input: &mut impl Read,
+    held: &mut [u8],
+    n: usize,
+) -> io::Result<Option<usize>>
     requires { n ≤ length held.old }
-    ensures ok { IfOk result (λ step. step.n ≤ length held.new) }
+    ensures ok { IfOk result (λ more. IfSome more (λ n. n ≤ length held.new)) }
     ensures err { OnErr result (length held.new ≡ length held.old) }
 {
     let mut buffer = [0u8; 65536];
     let got = input.read(&mut buffer)?;
     if got == 0 {
-        return Ok(Step { more: false, n });
+        return Ok(None);
     }
-    let n = feed(rt, &buffer[..got], held, n)?;
-    Ok(Step { more: true, n })
+    Ok(Some(feed(rt, &buffer[..got], held, n)?))
 }
 
 // Reads to the end of the input: how many bytes stand after the last LF. An error is that of a read or a write that failed.
-// Nothing says that the input ends, so the turns are counted down, from a number that no run uses up.
+// Nothing says that the input ends, so the reads are counted, to a number that no run uses up.
 fn all(rt: &impl Print, input: &mut impl Read, held: &mut [u8]) -> io::Result<usize> {
-    let mut turns = u64::MAX;
     let mut n: usize = 0;
-    while turns > 0 {
-        let step = some(rt, input, held, n)?;
-        n = step.n;
-        if !step.more {
-            return Ok(n);
-        }
-        turns -= 1;
+    for _ in 0..u64::MAX {
+        let Some(more) = some(rt, input, held, n)? else {
+            break;
+        };
+        n = more;
     }
     Ok(n)
 }

@@ -15,21 +15,19 @@ use test_cases::print::put;
 
 // Reads what stands behind the head of a sheet, and prints the answers for it: whether all is of the form. An error is that of a read or a write that failed.
 fn answered(rt: &impl Print, input: &mut impl Read, head: &[u8; 277]) -> io::Result<bool> {
-    let given = cases::readings(head);
-    if !given.ok {
+    let Some(readings) = cases::readings(head) else {
         return Ok(false);
-    }
-    let readings = given.values;
-    let lent = cases::lengths(input, head[276])?;
-    if !lent.ok {
+    };
+    let Some(lent) = cases::lengths(input, head[276])? else {
         return Ok(false);
-    }
+    };
+    let Some(count) = size(head) else {
+        return Ok(false);
+    };
     let mut sheet = [0u8; 16385];
-    let decoded = read_bytes(input, &mut sheet, size(head))?;
-    if !decoded.ok {
+    let Some(count) = read_bytes(input, &mut sheet, count)? else {
         return Ok(false);
-    }
-    let count = decoded.count;
+    };
     report::sheet(rt, &sheet[..count], &readings, lent)?;
     Ok(true)
 }
@@ -48,15 +46,13 @@ fn next(rt: &impl Print, input: &mut impl Read) -> io::Result<bool> {
     Ok(fine)
 }
 
-// Nothing says that the input ends, so the sheets are counted down, from a number that no run uses up.
+// Nothing says that the input ends, so the sheets are counted, to a number that no run uses up.
 fn main(rt: HostRuntime) -> io::Result<()> {
     let mut input = rt.stdin();
-    let mut left = u64::MAX;
-    while 0 < left {
+    for _ in 0..u64::MAX {
         if !next(&rt, &mut input)? {
-            return Ok(());
+            break;
         }
-        left -= 1;
     }
     Ok(())
 }

@@ -8,49 +8,30 @@ use crate::cases::Lent;
 use sheets::check::check;
 use sheets::run::run;
 use std::io;
-use test_cases::print::{decimal, put};
+use test_cases::print::put;
 
-// A number of one byte.
-fn small(rt: &impl Print, n: u8) -> io::Result<()> {
-    decimal(rt, n as usize)
-}
+// What stands in each byte that was not written.
+const UNWRITTEN: u8 = 200;
 
 // How many bytes were written before the first that was not.
 fn written(s: &[u8]) -> usize
     ensures { IsPrefixLen result s.now }
 {
-    let mut i: usize = 0;
-    while i < s.len() {
-        if s[i] == 200 {
-            return i;
-        }
-        i += 1;
-    }
-    i
+    s.iter().position(|b| *b == UNWRITTEN).unwrap_or(s.len())
 }
 
-// Whether no byte from a place on was written.
-fn untouched(s: &[u8], from: usize) -> bool {
-    let mut i = from;
-    while i < s.len() {
-        if s[i] != 200 {
-            return false;
-        }
-        i += 1;
-    }
-    true
+// Whether no byte was written.
+fn untouched(s: &[u8]) -> bool {
+    s.iter().all(|b| *b == UNWRITTEN)
 }
 
 // The kind codes that were written, and `?` if they do not stand at the start.
 fn codes(rt: &impl Print, kinds: &[u8]) -> io::Result<()> {
     let n = written(kinds);
-    let mut i: usize = 0;
-    while i < n {
-        put(rt, b" ")?;
-        small(rt, kinds[i])?;
-        i += 1;
+    for kind in &kinds[..n] {
+        print!(rt; " {kind}")?;
     }
-    if !untouched(kinds, n) {
+    if !untouched(&kinds[n..]) {
         put(rt, b" ?")?;
     }
     Ok(())
@@ -63,7 +44,7 @@ fn text(rt: &impl Print, out: &[u8], count: usize) -> io::Result<()> {
     if n != count {
         put(rt, b"?\n")?;
     }
-    if !untouched(out, n) {
+    if !untouched(&out[n..]) {
         put(rt, b"?\n")?;
     }
     Ok(())
@@ -74,10 +55,7 @@ fn checked(rt: &impl Print, s: &[u8], kinds: &mut [u8], lent: usize) -> io::Resu
     requires { IsPrefixLen lent kinds.old }
 {
     let a = check(s, &mut kinds[..lent]);
-    put(rt, b"check ")?;
-    small(rt, a.number)?;
-    put(rt, b" ")?;
-    decimal(rt, a.line)?;
+    print!(rt; "check {} {}", a.number, a.line)?;
     codes(rt, kinds)?;
     put(rt, b"\n")
 }
@@ -87,13 +65,7 @@ fn ran(rt: &impl Print, s: &[u8], readings: &[f64], out: &mut [u8], lent: usize)
     requires { IsPrefixLen lent out.old }
 {
     let a = run(s, readings, &mut out[..lent]);
-    put(rt, b"run ")?;
-    small(rt, a.number)?;
-    put(rt, b" ")?;
-    decimal(rt, a.line)?;
-    put(rt, b" ")?;
-    decimal(rt, a.written)?;
-    put(rt, b"\n")?;
+    println!(rt; "run {} {} {}", a.number, a.line, a.written)?;
     text(rt, out, a.written)
 }
 
@@ -101,9 +73,9 @@ fn ran(rt: &impl Print, s: &[u8], readings: &[f64], out: &mut [u8], lent: usize)
 pub fn sheet(rt: &impl Print, s: &[u8], readings: &[f64], lent: Lent) -> io::Result<()>
     requires { (lent.kinds ≤ 256) × (lent.readings ≤ 128) × (lent.output ≤ 32768) × (length readings.now ≡ 128) }
 {
-    let mut kinds = [200u8; 256];
+    let mut kinds = [UNWRITTEN; 256];
     checked(rt, s, &mut kinds, lent.kinds)?;
-    let mut out = [200u8; 32768];
+    let mut out = [UNWRITTEN; 32768];
     let n = lent.readings;
     ran(rt, s, &readings[..n], &mut out, lent.output)
 }

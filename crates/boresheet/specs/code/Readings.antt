@@ -1,15 +1,14 @@
 -- A reader of files of readings, by places.
 -- No part of what must be believed: that it reads exactly the files of Format.antt, and what it answers of any other, is proved (proofs/FormatLaws.antt), and the code is proved against it.
-use Rattle.std.specs.Prelude.{ℕ, zero, suc, ◌+◌, ◌*◌, Bool, true, false, List, [], ◌∷◌, ◌++◌, eqb, leb, length, get_or, Float}
+use Rattle.std.specs.Prelude.{ℕ, zero, suc, ◌+◌, ◌*◌, Bool, true, false, List, [], ◌∷◌, ◌++◌, eqb, leb, length, get_or, Float, Result, Ok, Err}
 use Rattle.std.specs.Float.{binary64}
 use Rattle.std.specs.Float.Ieee.{of_bits}
 use Rattle.sheets.specs.code.reader.Reader.{read_num}
 use Rattle.sheets.specs.code.reader.Views.{doubled}
 use Rattle.sheets.specs.declared.reader.num.DoubleRead.{DoubleRead}
 use Rattle.sheets.specs.declared.reader.num.DoubleRead.TheVariants.{Is, Not}
-use Rattle.boresheet.specs.declared.readings.Found.{Found}
-use Rattle.boresheet.specs.declared.readings.Readings.{Readings}
-use Rattle.boresheet.specs.Format.{hex_number, no_readings}
+use Rattle.boresheet.specs.declared.readings.BadReadings.{BadReadings}
+use Rattle.boresheet.specs.Format.{hex_number}
 
 -- ---- a line
 
@@ -44,19 +43,19 @@ reading_at s at = or_else (ended_at s (doubled (read_num s at))) (ended_at s (he
 
 -- ---- the file
 
-unfoldable pub lastly : Bool → List Float → Readings
-lastly true xs = record { found = Found.All; values = xs }
-lastly false xs = no_readings Found.Long
+unfoldable pub lastly : Bool → List Float → Result (List Float) BadReadings
+lastly true xs = Ok xs
+lastly false xs = Err BadReadings.Long
 
-unfoldable pub line_if : Bool → DoubleRead → List Float → (Float → ℕ → Readings) → Readings
-line_if true r xs rest = no_readings (Found.Short (length xs))
-line_if false Not xs rest = no_readings (Found.Bad (length xs + 1))
+unfoldable pub line_if : Bool → DoubleRead → List Float → (Float → ℕ → Result (List Float) BadReadings) → Result (List Float) BadReadings
+line_if true r xs rest = Err (BadReadings.Short (length xs))
+line_if false Not xs rest = Err (BadReadings.Line (length xs + 1))
 line_if false (Is x n) xs rest = rest x n
 
 -- the k lines from a place on, after those of the readings xs
-unfoldable pub readings_from : ℕ → List Float → List ℕ → ℕ → Readings
+unfoldable pub readings_from : ℕ → List Float → List ℕ → ℕ → Result (List Float) BadReadings
 readings_from zero xs s at = lastly (leb (length s) at) xs
 readings_from (suc k) xs s at = line_if (leb (length s) at) (reading_at s at) xs (λ x n. readings_from k (xs ++ (x ∷ [])) s n)
 
-unfoldable pub readings_of : List ℕ → Readings
+unfoldable pub readings_of : List ℕ → Result (List Float) BadReadings
 readings_of s = readings_from 16 [] s 0

@@ -10,29 +10,29 @@ use Rattle.boresheet.proofs.readings.readings_of.Goals as goal
 
 pub loop-i-init : goal.loop-i-init
 unfolding readings_of count_lf
-loop-i-init c = (omega arith, refl, refl, refl)
+loop-i-init c = (refl, refl, refl)
 
 pub returns-then-s-at : goal.returns-then-s-at
 returns-then-s-at c =
     let v = c.loop-i.invariant in
-    file-short _ _ _ _ v.1 v.0 _ v.2 _ c.loop-i-test.true c.if-s-at.true c.no_readings.ensures
+    file-short _ _ c.loop-i.i _ v.0 (omega arith) _ v.1 (omega arith) c.if-s-at.true
 
 pub returns-in_default : goal.returns-in_default
 returns-in_default c =
     let v = c.loop-i.invariant in
-    file-bad _ _ _ _ v.1 v.0 _ v.2 c.loop-i-test.true c.if-s-at.false _ c.reading-r.ensures c.in_default.is _ c.no_readings-in_default.ensures
+    file-bad _ _ c.loop-i.i _ v.0 (omega arith) _ v.1 (omega arith) c.if-s-at.false _ c.reading-r.ensures c.in_default.is
 
 pub loop-i-preserved : goal.loop-i-preserved
 loop-i-preserved c =
     let v = c.loop-i.invariant in
-    (omega arith, simp length-set v.1, file-turn _ _ _ _ v.1 v.0 _ v.2 c.loop-i-test.true c.if-s-at.false _ c.reading-r.ensures _ _ c.in-Is.is, reading-next _ _ _ c.reading-r.ensures _ _ c.in-Is.is _ v.3)
+    (simp length-set v.0, file-turn _ _ c.loop-i.i _ v.0 (omega arith) _ v.1 (omega arith) c.if-s-at.false _ c.reading-r.ensures _ _ c.in-Is.is, reading-next _ _ _ c.reading-r.ensures _ _ c.in-Is.is _ v.2)
 
 pub returns-then-at-s : goal.returns-then-at-s
 returns-then-at-s c =
     let v = c.loop-i.invariant in
-    file-long _ _ _ _ v.1 v.0 _ v.2 _ c.loop-i-test.false c.if-at-s.true c.no_readings-then-at-s.ensures
+    file-long _ _ c.loop-i.i _ v.0 (omega arith) _ v.1 (omega arith) c.if-at-s.true
 
 pub returns : goal.returns
 returns c =
     let v = c.loop-i.invariant in
-    file-all _ _ _ _ v.1 v.0 _ v.2 c.loop-i-test.false c.if-at-s.false
+    file-all _ _ c.loop-i.i _ v.0 (omega arith) _ v.1 (omega arith) c.if-at-s.false

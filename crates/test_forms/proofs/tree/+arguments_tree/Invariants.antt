@@ -1,5 +1,5 @@
--- What goes down from call to call of `test_forms::tree::arguments` and `test_forms::tree::tree`, and the loop of the first.
-use Rattle.std.proofs.Common.{◌+◌, ◌*◌, ◌≤◌}
+-- What goes down from call to call of `test_forms::tree::arguments` and `test_forms::tree::tree`.
+use Rattle.std.proofs.Common.{◌+◌, ◌*◌}
 use Rattle.test_forms.proofs.tree.+arguments_tree.Given as goal
 
 abbrev pub decreases-arguments : goal.decreases-arguments
@@ -7,9 +7,3 @@ decreases-arguments g l = l.depth * 2 + 1
 
 abbrev pub decreases-tree : goal.decreases-tree
 decreases-tree g l = l.depth * 2
-
-abbrev pub invariant-arguments-loop-left : goal.invariant-arguments-loop-left
-invariant-arguments-loop-left g l = l.left ≤ 5
-
-abbrev pub decreases-arguments-loop-left : goal.decreases-arguments-loop-left
-decreases-arguments-loop-left g l = l.left
