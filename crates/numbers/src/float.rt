@@ -28,7 +28,7 @@ pub fn double(bits: u64) -> f64
     f64::from_bits(bits)
 }
 
-// The sign bit, 0 or 1. A NaN's is open, and counts as 0.
+// The sign bit, 0 or 1. A NaN's is open, and counts as 0. A number and no bool: `atan2` multiplies by it, where a test would cost a jump.
 pub fn sign_bit(x: f64) -> u64
     ensures { result ≡ sign_digit x }
 {

@@ -13,7 +13,7 @@ pub mod sine;
 mod units;
 pub mod vectors;
 
-// What the derived `==` of these types answers is `angle_eq`, `vec_eq` and `mat_eq` of specs, by proofs/EqualLaws.antt.
+// The derived `==` of these types is `angle_eq`, `vec_eq` and `mat_eq` of specs, by proofs/EqualLaws.antt.
 
 // An angle: a wrapped number, in radians.
 #[derive(PartialEq, Clone, Copy, Debug)]

@@ -18,6 +18,7 @@ pub fn eq(left: f64, right: f64) -> bool
     abs(right - left) <= EPSILON
 }
 
+// `lte` and `gte`, the Rust's names, are a line each: one function for both would be no plainer.
 pub fn lte(left: f64, right: f64) -> bool
     ensures { result ≡ near_or_below left right }
 {

@@ -38,6 +38,13 @@ struct Fours {
     pub g: u64,
 }
 
+// The bits of a positive normal number.
+#[derive(Clone, Copy)]
+struct NormalBits {
+    pub bits: u64,
+    ghost in_range: { (2 ^ 52 ≤ bits) × (bits < 0x7ff0_0000_0000_0000) },
+}
+
 // The root of w * 2^52, digit by digit.
 fn by_digits(w: u64) -> Rooted
     requires { w < 2 ^ 54 }
@@ -73,13 +80,12 @@ fn lifted(v: u64, g: u64) -> Fours
     Fours { w, g: h }
 }
 
-// The number that the bits b of a normal number stand for, in units of 2^-1074 and times 2^1022.
-fn normal(b: u64) -> Fours
-    requires { (2 ^ 52 ≤ b) × (b < 0x7ff0_0000_0000_0000) }
-    ensures { Lifted (units_of b * 2 ^ 1022) 1534 result.w result.g }
+// What a normal number is, in units of 2^-1074 and times 2^1022.
+fn normal(x: NormalBits) -> Fours
+    ensures { Lifted (units_of x.bits * 2 ^ 1022) 1534 result.w result.g }
 {
-    let t = b % TWO_52;
-    let q = b / TWO_52;
+    let t = x.bits % TWO_52;
+    let q = x.bits / TWO_52;
     Fours {
         w: (TWO_52 + t) * (2 - q % 2),
         g: 510 + (q + 1) / 2,
@@ -94,7 +100,7 @@ fn scaled(b: u64) -> Fours
     if b < TWO_52 {
         return lifted(b, 511);
     }
-    normal(b)
+    normal(NormalBits { bits: b })
 }
 
 // The bits of the root of a positive number's bits: up one where the rest passes the root. Rounding up carries into the exponent by itself.
@@ -128,12 +134,10 @@ fn plain(x: f64) -> f64
     f64::from_bits(root_bits(b))
 }
 
-// What is nearly always the root of the normal number with the bits b. Nothing hangs on it: `is_root` tests it.
+// What is nearly always the root of x. Nothing hangs on it: `is_root` tests it.
 // f in [0.5, 2) is that number by a power of four. The first s is off from √f / 2 by 3.5 in a hundred at most, and the next, by one step of the sixth order, from √f by about 2^-34. h is its upper 26 digits, so h * h and f - h * h are exact.
-fn near(b: u64) -> f64
-    requires { b < 0x7ff0_0000_0000_0000 }
-{
-    let low = b % TWO_53;
+fn near(x: NormalBits) -> f64 {
+    let low = x.bits % TWO_53;
     let f = f64::from_bits(low + HALF_BITS);
     let s = f64::from_bits(low / 2 + GUESS_BITS);
     let t = s * s;
@@ -141,7 +145,7 @@ fn near(b: u64) -> f64
     let q = p * p;
     let s = p * (q + 3.0 * f * t) / (3.0 * s * q + s * f * t);
     let h = s + CUT - CUT;
-    let half = b / TWO_53 * TWO_52;
+    let half = x.bits / TWO_53 * TWO_52;
     let up = f64::from_bits(half + UP_BITS);
     let down = f64::from_bits(DOWN_BITS - half);
     h * up + (f - h * h) / ((h + s) * down)
@@ -181,16 +185,15 @@ fn rounds(w: u64, r: u64) -> bool
     most - left < 2 * r
 }
 
-// Whether s is the root of the normal number with the bits b.
-fn is_root(b: u64, s: f64) -> bool
-    requires { (2 ^ 52 ≤ b) × (b < 0x7ff0_0000_0000_0000) }
-    ensures { result ≡ true → s ≡ Root.sqrt (from_bits binary64 b) }
+// Whether s is the root of x.
+fn is_root(x: NormalBits, s: f64) -> bool
+    ensures { result ≡ true → s ≡ Root.sqrt (from_bits binary64 x.bits) }
 {
     if s != s {
         return false;
     }
     let digits = f64::to_bits(s);
-    let n = normal(b);
+    let n = normal(x);
     let low = n.g * TWO_52;
     if digits < low {
         return false;
@@ -202,9 +205,9 @@ fn is_root(b: u64, s: f64) -> bool
     rounds(n.w, r)
 }
 
-// The root of x, whose bits are b, where it is the double next to s; else by digits. A guess that misses the root misses it by one.
-fn beside(x: f64, b: u64, s: f64) -> f64
-    requires { (2 ^ 52 ≤ b) × (b < 0x7ff0_0000_0000_0000) × (from_bits binary64 b ≡ x) }
+// The root of x, whose bits are those of n, where it is the double next to s; else by digits. A guess that misses the root misses it by one.
+fn beside(x: f64, n: NormalBits, s: f64) -> f64
+    requires { from_bits binary64 n.bits ≡ x }
     ensures { result ≡ Root.sqrt x }
 {
     if s != s {
@@ -215,11 +218,11 @@ fn beside(x: f64, b: u64, s: f64) -> f64
         return plain(x);
     }
     let up = f64::from_bits(d + 1);
-    if is_root(b, up) {
+    if is_root(n, up) {
         return up;
     }
     let down = f64::from_bits(d - 1);
-    if is_root(b, down) {
+    if is_root(n, down) {
         return down;
     }
     plain(x)
@@ -234,11 +237,12 @@ pub fn sqrt(x: f64) -> f64
     }
     let b = f64::to_bits(x);
     if b >= TWO_52 && b < INFINITY_BITS {
-        let s = near(b);
-        if is_root(b, s) {
+        let n = NormalBits { bits: b };
+        let s = near(n);
+        if is_root(n, s) {
             return s;
         }
-        return beside(x, b, s);
+        return beside(x, n, s);
     }
     plain(x)
 }

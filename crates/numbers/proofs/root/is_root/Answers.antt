@@ -12,12 +12,12 @@ float_to_bits-digits c = no_nan c.args.s c.if-s.false
 
 pub returns : goal.returns
 returns c h =
-    let b = c.args.b in
+    let b = c.args.x.bits in
     let s = c.args.s in
     let n = c.normal-n in
     let l = n.result.g * 4503599627370496 in
     let r = to_bits binary64 s - l in
     let k : l ≤ to_bits binary64 s = c.if-digits-low.false in
     let e : to_bits binary64 s ≡ l + r = omega arith in
-    let o = to-nearest b n.result.w n.result.g r (omega arith) c.requires.1 n.ensures (c.rounds.ensures h) c.if-r-ge-TWO_53.false in
+    let o = to-nearest b n.result.w n.result.g r (omega arith) c.args.x.in_range.1 n.ensures (c.rounds.ensures h) c.if-r-ge-TWO_53.false in
     sym (of_bits-to_bits binary64 s (T_from_true _ c.well_formed.1.0.1)) ∙ ap (of_bits binary64) e ∙ o.is

@@ -60,7 +60,7 @@ doubled m q p = elim (below_or_not (q % 2) 1) [
 
 pub returns : goal.returns
 returns c =
-    let b = c.args.b in
+    let b = c.args.x.bits in
     let q = b / 4503599627370496 in
     let p : 0 < q = omega arith in
     let d = doubled (4503599627370496 + b % 4503599627370496) q p in

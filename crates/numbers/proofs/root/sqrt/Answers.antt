@@ -14,4 +14,4 @@ pub returns-then-is_root : goal.returns-then-is_root
 returns-then-is_root c = c.is_root.ensures c.if-is_root.true ∙ ap sqrt (of_bits-to_bits binary64 c.args.x (T_from_true _ c.well_formed.0.1))
 
 pub beside-requires : goal.beside-requires
-beside-requires c = (c.if-b-ge-TWO_52.true, c.if-b-lt-INFINITY_BITS.true, (of_bits-to_bits binary64 c.args.x (T_from_true _ c.well_formed.0.1)))
+beside-requires c = of_bits-to_bits binary64 c.args.x (T_from_true _ c.well_formed.0.1)
