@@ -65,6 +65,7 @@ impl Ellipsoid {
         self.flattening
     }
 
+    #[tactic(auto, unfolding(crate::specs::Radii::geocentric_radius))]
     pub fn geocentric_radius(self, latitude: Angle) -> Length
         ensures { result ≡ geocentric_radius self latitude }
     {
@@ -122,6 +123,7 @@ impl Ellipsoid {
         sum / 3.0
     }
 
+    #[tactic(auto, unfolding(crate::specs::Ellipsoids::geodetic_to_geocentric))]
     pub fn geodetic_to_geocentric_position(self, pos: GeodeticPosition) -> GeocentricPosition
         ensures { result ≡ geodetic_to_geocentric self pos }
     {
@@ -139,6 +141,7 @@ impl Ellipsoid {
         GeocentricPosition::from_metres(cx, cy, cz)
     }
 
+    #[tactic(auto, unfolding(crate::specs::Ellipsoids::geocentric_to_geodetic))]
     pub fn geocentric_to_geodetic_position(self, pos: GeocentricPosition) -> GeodeticPosition
         ensures { result ≡ geocentric_to_geodetic self pos }
     {
@@ -153,6 +156,7 @@ impl Ellipsoid {
     }
 
     // p and q of `geocentric_to_geodetic_position`. A sheet refuses a position near the centre by their sum.
+    #[tactic(auto, unfolding(crate::specs::Ellipsoids::p_of))]
     pub fn p_of(self, pv: Vec3) -> f64
         ensures { result ≡ p_of self pv }
     {

@@ -66,6 +66,7 @@ impl LocalFrame {
     }
 
     // A vehicle's body.
+    #[tactic(auto, unfolding(crate::specs::Frames::new_ned, crate::specs::Frames::new_body))]
     pub fn body<P: Position>(
         yaw: Angle,
         pitch: Angle,
@@ -79,6 +80,7 @@ impl LocalFrame {
     }
 
     // The body whose nose points at the target.
+    #[tactic(auto, unfolding(crate::specs::Frames::looking_at, crate::specs::Frames::new_ned, crate::specs::Frames::new_body))]
     pub fn looking_at<P: Position>(origin: P, target: P, roll: Angle, surface: Ellipsoid) -> Self
         ensures { result ≡ looking_at (P.geodetic_on origin surface) (P.geocentric_on origin surface) (P.geocentric_on target surface) roll }
     {
@@ -138,6 +140,7 @@ impl LocalFrame {
         GeocentricPosition::from_vec3_metres(self.origin)
     }
 
+    #[tactic(auto, unfolding(crate::specs::Frames::transform))]
     pub fn transform(self, offset: LocalVector, yaw: Angle, pitch: Angle, roll: Angle) -> Self
         ensures { result ≡ Frames.transform self offset yaw pitch roll }
     {
@@ -149,6 +152,7 @@ impl LocalFrame {
         LocalFrame::by_direction(Orientation::Body, new_origin, dir_rm)
     }
 
+    #[tactic(auto, unfolding(crate::specs::Frames::local_vector_to))]
     pub fn local_vector_to(self, target: GeocentricPosition) -> LocalVector
         ensures { result ≡ local_vector_to self target }
     {
@@ -159,6 +163,7 @@ impl LocalFrame {
         LocalVector::from_vec3_metres(o, d)
     }
 
+    #[tactic(auto, unfolding(crate::specs::Frames::destination_position))]
     pub fn destination_position(self, vector: LocalVector) -> GeocentricPosition
         ensures { result ≡ destination_position self vector }
     {
@@ -169,6 +174,7 @@ impl LocalFrame {
 }
 
 // m1 * m2, aligned to z down where o has z up.
+#[tactic(auto, unfolding(crate::specs::Frames::rotate))]
 fn rotate(o: Orientation, m1: Mat33, m2: Mat33) -> Mat33
     ensures { result ≡ Frames.rotate o m1 m2 }
 {

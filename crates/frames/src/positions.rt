@@ -219,6 +219,7 @@ impl From<NVector> for LatLong {
     }
 }
 
+#[tactic(auto, unfolding(crate::specs::Positions::nvector_to_latlong))]
 fn nvector_to_latlong(nvector: Vec3) -> LatLong
     ensures { result ≡ nvector_to_latlong nvector }
 {

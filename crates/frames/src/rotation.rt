@@ -27,6 +27,7 @@ pub fn r2xyz(m: Mat33) -> Xyz
     }
 }
 
+#[tactic(auto, unfolding(crate::specs::Rotations::r2zyx))]
 pub fn r2zyx(m: Mat33) -> Zyx
     ensures { result ≡ Rotations.r2zyx m }
 {
@@ -38,6 +39,7 @@ pub fn r2zyx(m: Mat33) -> Zyx
     }
 }
 
+#[tactic(auto, unfolding(crate::specs::Rotations::zyx2r))]
 pub fn zyx2r(z: Angle, y: Angle, x: Angle) -> Mat33
     ensures { result ≡ Rotations.zyx2r z y x }
 {
@@ -53,6 +55,7 @@ pub fn zyx2r(z: Angle, y: Angle, x: Angle) -> Mat33
     Mat33::new(r0, r1, r2)
 }
 
+#[tactic(auto, unfolding(crate::specs::Rotations::xyz2r))]
 pub fn xyz2r(x: Angle, y: Angle, z: Angle) -> Mat33
     ensures { result ≡ Rotations.xyz2r x y z }
 {

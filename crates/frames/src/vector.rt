@@ -61,6 +61,7 @@ impl LocalVector {
         LocalVector::from_metres(orientation, v.x, v.y, v.z)
     }
 
+    #[tactic(auto, unfolding(crate::specs::Vectors::from_aer))]
     pub fn from_aer(
         orientation: Orientation,
         azimuth: Angle,
@@ -80,6 +81,7 @@ impl LocalVector {
         }
     }
 
+    #[tactic(auto, unfolding(crate::specs::Vectors::slant_range))]
     pub fn slant_range(self) -> Length
         ensures { result ≡ slant_range self }
     {
@@ -100,6 +102,7 @@ impl LocalVector {
         if o.is_z_up() { Angle(r) } else { Angle(-r) }
     }
 
+    #[tactic(auto, unfolding(crate::specs::Vectors::bearing))]
     pub fn bearing(self) -> Angle
         ensures { result ≡ Vectors.bearing self }
     {
@@ -112,6 +115,7 @@ impl LocalVector {
     }
 
     // East-north-up to north-east-down and back: `from` of the Rust, which has it for these two. Any other vector stays as it is.
+    #[tactic(auto, unfolding(crate::specs::Vectors::swap))]
     pub fn swap(self) -> Self
         ensures { result ≡ Vectors.swap self }
     {
@@ -211,6 +215,7 @@ impl Neg for LocalVector {
     }
 }
 
+#[tactic(auto, unfolding(crate::specs::Vectors::aer_to_nez))]
 fn aer_to_nez(azimuth: Angle, elevation: Angle, slant_range: Length) -> Nez
     ensures { result ≡ aer_to_nez azimuth elevation slant_range }
 {
