@@ -20,15 +20,14 @@ fn known(code: u64, end: usize, names: &Names, floats: &mut [f64; 2940], top: us
     requires { top + 21 ≤ 2940 }
     ensures { KnownWith code end names.now floats.old top result floats.new }
 {
-    let j = names.place(code);
-    if j == 0 {
+    let Some(j) = names.place(code) else {
         let i = reading_index(code);
         if 16 <= i {
             return Evaluated::Sticks;
         }
         floats[top] = floats[i];
         return tested(0, floats, top, end);
-    }
+    };
     let kind = names.kinds[j];
     copy_floats(floats, 21 * j, top);
     tested(kind, floats, top, end)

@@ -90,7 +90,7 @@ pub fn run_lines(s: &[u8], from: usize, e: Ellipsoid, readings: &[f64], out: &mu
                 at = next;
             }
             LineHead::Whole(w, next) => {
-                let j = names.place(named(w));
+                let j = names.place(named(w)).unwrap_or(0);
                 match whole_line(s, w, j, t[j], &floats, &mut shown, &mut sum, out, written) {
                     Evaluated::Is(_, count) => written = count,
                     r => return stopped(r, line, written),
