@@ -1,4 +1,5 @@
 -- The check's walk over the lines, a turn at a time, and the whole sheet: a law for each way out of `walk_lines`, `unless_bad` and `admit`. Assumes nothing.
+use Rattle.std.specs.Prelude.{Result, Ok, Err}
 use Prim.Native.Nat.{ℕ, suc, ◌+◌, ◌-◌, ◌%◌, ◌<◌, ◌≤◌}
 use native.Mathlib.Omega.{arith}
 use mathlib.Core.Path.{◌≡◌, refl, sym, ap, ◌∙◌, subst}
@@ -21,7 +22,6 @@ use Rattle.sheets.specs.Check.{Stateᶜ, lineᶜ, noted, stepᶜ, Walked, passes
 use Rattle.sheets.specs.Admitted.{LineFits}
 use Rattle.sheets.specs.Answers.{ranged, of_walked, of_form}
 use Rattle.sheets.specs.Machine.{surface}
-use Rattle.sheets.specs.declared.reader.form.FormRead.{FormRead}
 use Rattle.sheets.specs.declared.check.first_line.FirstLine.{FirstLine}
 use Rattle.sheets.specs.LineNumbers.{line_number}
 use Rattle.sheets.proofs.reader.Spans.{holds_at}
@@ -217,12 +217,12 @@ module _ (s : List ℕ) (start at passed : ℕ) (words codes newest : List ℕ) 
 
 -- ---- the form pass after a refusal
 
-module _ (o : Form (List Line)) (from : ℕ) (f : FormRead) (ef : f ≡ lines_form from o) (n number line : ℕ) (r : Outcome) where
-  pub unless-bad : f ≡ FormRead.Bad n → r ≡ Outcome.Refuses 3 n → r ≡ unless_bad (lines_form from o) number line
+module _ (o : Form (List Line)) (from : ℕ) (f : Result ℕ ℕ) (ef : f ≡ lines_form from o) (n number line : ℕ) (r : Outcome) where
+  pub unless-bad : f ≡ Err n → r ≡ Outcome.Refuses 3 n → r ≡ unless_bad (lines_form from o) number line
   unfolding unless_bad
   unless-bad h er = er ∙ ap (λ f. unless_bad f number line) (sym h ∙ ef)
 
-  pub unless-fine : f ≡ FormRead.Fine n → r ≡ Outcome.Refuses number line → r ≡ unless_bad (lines_form from o) number line
+  pub unless-fine : f ≡ Ok n → r ≡ Outcome.Refuses number line → r ≡ unless_bad (lines_form from o) number line
   unfolding unless_bad
   unless-fine h er = er ∙ ap (λ f. unless_bad f number line) (sym h ∙ ef)
 

@@ -1,4 +1,5 @@
 -- The kind of an expression, a step at a time: a law for each way out of `kind_at` and `gather`. Assumes nothing.
+use Rattle.std.specs.Prelude.{Option as Read, Some, None}
 use Prim.Native.Nat.{ℕ, zero, suc, ◌+◌, ◌-◌, ◌*◌, ◌^◌, ◌<◌, ◌≤◌}
 use native.Mathlib.Omega.{arith}
 use mathlib.Core.Path.{◌≡◌, refl, sym, ap, ◌∙◌}
@@ -18,10 +19,7 @@ use Rattle.sheets.specs.Names.{Known, lookup}
 use Rattle.sheets.specs.code.rows.KindCodes.{key_from, kind_or_255, RowKind}
 use Rattle.sheets.specs.Refusals.{Fault, name, kind, fault, refusal_number, Checked, fine, bad, thenᶜ, known?}
 use Rattle.sheets.specs.Check.{kind_of_expr, kinds_of_exprs}
-use Rattle.sheets.specs.declared.reader.bytes.WordRead.{WordRead}
 use Rattle.sheets.specs.declared.reader.num.Numeral.{Numeral}
-use Rattle.sheets.specs.declared.reader.num.NumRead.{NumRead}
-use Rattle.sheets.specs.declared.reader.expr.Read.{Read}
 use Rattle.sheets.proofs.reader.ReaderLaws.{then-got, close-read}
 use Rattle.sheets.proofs.reader.TokenSteps.{grow, cap}
 use Rattle.sheets.proofs.reader.ExprSteps.{not-close, args_none, args-other, args-step, expr-step, expr-bad, name-read, num-read}
@@ -66,7 +64,7 @@ said-some x o f n e h = let (k, eo, ek) = some-found o f e h in rw eo (ap (λ i.
 not_is : {C : Type 0} (number k n : ℕ) → KindRead.Refused number ≡ KindRead.Is k n → C
 not_is number k n e = let z : ◌≡◌ {A = ℕ} 0 1 = cc in absurd (omega arith)
 
-pub has-none : (s : List ℕ) (at depth : ℕ) (ps : Known Kind) (number : ℕ) → Read.Bad ≡ place (read_expr depth s at) → ExprHas s at depth ps (KindRead.Refused number)
+pub has-none : (s : List ℕ) (at depth : ℕ) (ps : Known Kind) (number : ℕ) → None ≡ place (read_expr depth s at) → ExprHas s at depth ps (KindRead.Refused number)
 has-none s at depth ps number h = record { is = λ x n g. not-read (read_expr depth s at) x n h g; read = λ k n e. not_is number k n e }
 
 said-end : (o : Checked Kind) (n k m : ℕ) → kind_said o n ≡ KindRead.Is k m → n ≡ m
@@ -86,9 +84,9 @@ leaf-word s at depth w n e = go depth (holds_at (ExprAt s depth at) (read_expr d
     go (suc d) h = h
 
 module _ (s : List ℕ) (at b : ℕ) (eb : b ≡ get_or s at 0) (depth : ℕ) (ps : Known Kind) where
-  module _ (h : b ≡ 40 → ⊥) (r : WordRead) (er : r ≡ coded (read_word s at)) where
+  module _ (h : b ≡ 40 → ⊥) (r : Read (ℕ × ℕ)) (er : r ≡ coded (read_word s at)) where
     -- a word: f is the kind code found for it
-    module _ (code n : ℕ) (hr : r ≡ WordRead.Is code n) (words codes newest : List ℕ) (st : Standing words codes newest ps) (f : ℕ) (hf : f ≡ kind_found words codes newest code) where
+    module _ (code n : ℕ) (hr : r ≡ Some (code, n)) (words codes newest : List ℕ) (st : Standing words codes newest ps) (f : ℕ) (hf : f ≡ kind_found words codes newest code) where
       found-is : (w : Word) → read_expr depth s at ≡ got (word_expr w) n → code ≡ code_of w → f ≡ kind_or_255 (lookup w ps)
       found-is w ew ec = found-kind words codes newest ps st code f hf w (leaf-word s at depth w n ew) ec
 
@@ -104,15 +102,15 @@ module _ (s : List ℕ) (at b : ℕ) (eb : b ≡ get_or s at 0) (depth : ℕ) (p
           let (w, ew, ec) = name-read s at b eb depth h r er code n hr in
           has-got s at depth ps _ (word_expr w) n ew (said-some name (lookup w ps) f n (found-is w ew ec) e)
 
-    pub num-has : r ≡ WordRead.Not → (v : NumRead) → v ≡ counted (read_num s at) → (y : Numeral) → v ≡ NumRead.Is y → ExprHas s at depth ps (KindRead.Is 0 y.end)
+    pub num-has : r ≡ None → (v : Read Numeral) → v ≡ counted (read_num s at) → (y : Numeral) → v ≡ Some y → ExprHas s at depth ps (KindRead.Is 0 y.end)
     unfolding kind_of_expr kind_said
     num-has hr v ev y hv = let (q, eq, ey) = num-read s at b eb depth h r er hr v ev y hv in has-got s at depth ps _ (num_expr q) y.end eq refl
 
-    pub leaf-none : (number : ℕ) → r ≡ WordRead.Not → (v : NumRead) → v ≡ counted (read_num s at) → v ≡ NumRead.Not → ExprHas s at depth ps (KindRead.Refused number)
+    pub leaf-none : (number : ℕ) → r ≡ None → (v : Read Numeral) → v ≡ counted (read_num s at) → v ≡ None → ExprHas s at depth ps (KindRead.Refused number)
     leaf-none number hr v ev hv = has-none s at depth ps number (expr-bad s at b eb depth h r er hr v ev hv)
 
   -- a bracket: g is what its arguments came to
-  module _ (h : b ≡ 40) (d : depth ≡ 0 → ⊥) (r : WordRead) (er : r ≡ coded (read_word s (at + 1))) (code m : ℕ) (hr : r ≡ WordRead.Is code m) (g : KeyRead) (hg : ArgsHave s m (depth - 1) 5 0 ps g) where
+  module _ (h : b ≡ 40) (d : depth ≡ 0 → ⊥) (r : Read (ℕ × ℕ)) (er : r ≡ coded (read_word s (at + 1))) (code m : ℕ) (hr : r ≡ Some (code, m)) (g : KeyRead) (hg : ArgsHave s m (depth - 1) 5 0 ps g) where
     form-has : (q : KindRead)
         → ((w : Word) → IsWord w → code ≡ code_of w → (o : Checked (List Kind)) (n : ℕ) → g ≡ key_said 0 o n → q ≡ kind_said (thenᶜ o (λ js. known? kind (find_kind table w js))) n)
         → ((k n : ℕ) → q ≡ KindRead.Is k n → (x : Expr) × (read_expr depth s at ≡ got x n))
@@ -177,7 +175,7 @@ module _ (s : List ℕ) (at b : ℕ) (eb : b ≡ get_or s at 0) (depth : ℕ) (p
 not_key : {C : Type 0} (number k n : ℕ) → KeyRead.Refused number ≡ KeyRead.Is k n → C
 not_key number k n e = let z : ◌≡◌ {A = ℕ} 0 1 = cc in absurd (omega arith)
 
-have-none : (s : List ℕ) (at depth left key : ℕ) (ps : Known Kind) (number : ℕ) → Read.Bad ≡ place (read_args (read_expr depth s) left s at) → ArgsHave s at depth left key ps (KeyRead.Refused number)
+have-none : (s : List ℕ) (at depth left key : ℕ) (ps : Known Kind) (number : ℕ) → None ≡ place (read_args (read_expr depth s) left s at) → ArgsHave s at depth left key ps (KeyRead.Refused number)
 have-none s at depth left key ps number h = record { is = λ xs n g. not-read (read_args (read_expr depth s) left s at) xs n h g; read = λ k n e. not_key number k n e }
 
 module _ (s : List ℕ) (at b : ℕ) (eb : b ≡ get_or s at 0) (depth left key : ℕ) (ps : Known Kind) where

@@ -1,4 +1,5 @@
 -- A line of the check's walk, a step at a time: a law for each way out of `is_barred`, `known_kind`, `whole_kind`, `let_kind`, `short_kind` and `line_kind`. Assumes nothing.
+use Rattle.std.specs.Prelude.{Option as Read, Some, None}
 use Prim.Native.Nat.{ℕ, ◌+◌}
 use native.Mathlib.Omega.{arith}
 use mathlib.Core.Path.{◌≡◌, refl, sym, ap, ◌∙◌, subst}
@@ -22,7 +23,6 @@ use Rattle.sheets.specs.Scopes.{Scope, give_if}
 use Rattle.sheets.specs.code.rows.KindCodes.{row_codes}
 use Rattle.sheets.specs.Refusals.{fault, refusal_number, Checked, fine, bad, thenᶜ}
 use Rattle.sheets.specs.Check.{kind_of_expr, lineᶜ}
-use Rattle.sheets.specs.declared.reader.expr.Read.{Read}
 use Rattle.sheets.specs.declared.reader.lines.NameAt.{NameAt}
 use Rattle.sheets.specs.declared.reader.lines.WholeLine.{WholeLine}
 use Rattle.sheets.proofs.reader.ReaderLaws.{then-got}
@@ -149,7 +149,7 @@ module _ (s : List ℕ) (at code i : ℕ) (d : Scope Kind) (q : KindRead) (hq : 
   LetRead p = (w : Word) (c k m : ℕ) → p ≡ LineKind.Is c k m → (l : Line) × (rest s (let_word w) at ≡ got l m)
 
   let-is : (p : LineKind)
-      → ((w : Word) → IsWord w → code_of w ≡ code → (o : Checked Kind) (j m : ℕ) → q ≡ kind_said o j → closed s j ≡ Read.At m → p ≡ line_said w (thenᶜ o (given w (barred w d.known))) m)
+      → ((w : Word) → IsWord w → code_of w ≡ code → (o : Checked Kind) (j m : ℕ) → q ≡ kind_said o j → closed s j ≡ Some m → p ≡ line_said w (thenᶜ o (given w (barred w d.known))) m)
       → LetRead p
       → LetHas p
   unfolding rest lineᶜ
@@ -167,20 +167,20 @@ module _ (s : List ℕ) (at code i : ℕ) (d : Scope Kind) (q : KindRead) (hq : 
   unfolding kind_said line_said
   let-refused number h = let-is _ go (λ w c k n e. not_line number c k n e)
     where
-      go : (w : Word) → IsWord w → code_of w ≡ code → (o : Checked Kind) (j m : ℕ) → q ≡ kind_said o j → closed s j ≡ Read.At m
+      go : (w : Word) → IsWord w → code_of w ≡ code → (o : Checked Kind) (j m : ℕ) → q ≡ kind_said o j → closed s j ≡ Some m
           → LineKind.Refused number ≡ line_said w (thenᶜ o (given w (barred w d.known))) m
       go w hw ec (fine k) j m p et = let z : ◌≡◌ {A = ℕ} 0 1 = cc in absurd (omega arith)
       go w hw ec (bad f) j m p et = let n : number ≡ refusal_number (fault f) = cc in ap (λ k. LineKind.Refused k) n
 
   module _ (f end : ℕ) (h : q ≡ KindRead.Is f end) (t : Bool) (ht : BarredWord code d.known t) where
     let-fine : (p : LineKind)
-        → ((w : Word) (k : Kind) (m : ℕ) → code_of w ≡ code → f ≡ kind_code k → closed s end ≡ Read.At m → p ≡ line_said w (given w t k) m)
+        → ((w : Word) (k : Kind) (m : ℕ) → code_of w ≡ code → f ≡ kind_code k → closed s end ≡ Some m → p ≡ line_said w (given w t k) m)
         → LetRead p
         → LetHas p
     unfolding kind_said
     let-fine p g u = let-is p go u
       where
-        go : (w : Word) → IsWord w → code_of w ≡ code → (o : Checked Kind) (j m : ℕ) → q ≡ kind_said o j → closed s j ≡ Read.At m → p ≡ line_said w (thenᶜ o (given w (barred w d.known))) m
+        go : (w : Word) → IsWord w → code_of w ≡ code → (o : Checked Kind) (j m : ℕ) → q ≡ kind_said o j → closed s j ≡ Some m → p ≡ line_said w (thenᶜ o (given w (barred w d.known))) m
         go w hw ec (fine k) j m e et =
             let ek : f ≡ kind_code k = cc in
             let ej : end ≡ j = cc in
@@ -191,11 +191,11 @@ module _ (s : List ℕ) (at code i : ℕ) (d : Scope Kind) (q : KindRead) (hq : 
     unfolding line_said
     let-barred h = let-fine _ (λ w k m ec ek et. rw h refl) (λ w c k n e. not_line 5 c k n e)
 
-    module _ (et : t ≡ false) (c : Read) (ez : c ≡ closed s end) where
-      pub let-no-end : (number : ℕ) → c ≡ Read.Bad → LetHas (LineKind.Refused number)
+    module _ (et : t ≡ false) (c : Read ℕ) (ez : c ≡ closed s end) where
+      pub let-no-end : (number : ℕ) → c ≡ None → LetHas (LineKind.Refused number)
       let-no-end number j = let-fine _ (λ w k m ec ek el. let z : ◌≡◌ {A = ℕ} 0 1 = cc in absurd (omega arith)) (λ w c k n e. not_line number c k n e)
 
-      pub let-given : (next : ℕ) → c ≡ Read.At next → LetHas (LineKind.Is code f next)
+      pub let-given : (next : ℕ) → c ≡ Some next → LetHas (LineKind.Is code f next)
       unfolding rest line_said
       let-given next j = let-fine _ (λ w k m ec ek el. let en : next ≡ m = cc in rw et (line_same _ _ _ _ _ _ (sym ec) ek en)) (λ w y k m e.
           let (x, ex) = hq.read f end h in

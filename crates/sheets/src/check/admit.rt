@@ -12,8 +12,7 @@ ghost use Rattle.sheets.specs.code.check.Walking.{ForKnown, BarredWord, ForScope
 use crate::check::first_line::{FirstLine, first_line};
 use crate::check::kind_walk::{KindRead, find_kind, kind_at};
 use crate::check::newest::put_newest;
-use crate::reader::expr::Read;
-use crate::reader::form::{FormRead, form_from};
+use crate::reader::form::form_from;
 use crate::reader::lines::{LineHead, WholeLine, closing, is_short, line_head};
 use crate::rows::kinds::opens;
 use frames::Ellipsoid;
@@ -104,8 +103,8 @@ fn let_kind(
             }
             let c = closing(s, end);
             match c {
-                Read::Bad => LineKind::Refused(3),
-                Read::At(next) => LineKind::Is(code, kind, next),
+                None => LineKind::Refused(3),
+                Some(next) => LineKind::Is(code, kind, next),
             }
         }
     }
@@ -136,14 +135,13 @@ fn line_kind(
 ) -> LineKind
     ensures { ForScope words.now codes.now newest.now (λ i c. LineHas (read_line s.now at) i c result) }
 {
-    let h = line_head(s, at);
-    match h {
-        LineHead::Bad => LineKind::Refused(3),
-        LineHead::Let(name, value) => {
+    match line_head(s, at) {
+        None => LineKind::Refused(3),
+        Some(LineHead::Let(name, value)) => {
             let r = let_kind(s, name.code, value, words, codes, newest);
             short_kind(at, r)
         }
-        LineHead::Whole(line, next) => {
+        Some(LineHead::Whole(line, next)) => {
             let r = whole_kind(line, next, words, codes, newest);
             short_kind(at, r)
         }
@@ -168,8 +166,8 @@ fn unless_bad(s: &[u8], at: usize, from: usize, number: u8, line: usize) -> Admi
 {
     let f = form_from(s, at, from);
     match f {
-        FormRead::Bad(bad) => refused(3, bad),
-        FormRead::Fine(_) => refused(number, line),
+        Err(bad) => refused(3, bad),
+        Ok(_) => refused(number, line),
     }
 }
 

@@ -6,8 +6,8 @@ ghost use Rattle.std.specs.Prelude.{◌≡◌};
 ghost use Rattle.sheets.specs.code.check.Walking.{reading_kind, kind_found, ForKnown, LeafHas, ExprHas, ArgsHave};
 
 use crate::check::newest::word_place;
-use crate::reader::bytes::{WordRead, byte, word};
-use crate::reader::num::{NumRead, num};
+use crate::reader::bytes::{byte, word};
+use crate::reader::num::num;
 use crate::reader::words;
 use crate::rows::kinds::kind_of_row;
 
@@ -67,7 +67,7 @@ fn leaf_kind(
 {
     let w = word(s, at);
     match w {
-        WordRead::Is(code, n) => {
+        Some((code, n)) => {
             let kind = find_kind(words, codes, newest, code);
             if kind == 255 {
                 KindRead::Refused(5)
@@ -75,11 +75,11 @@ fn leaf_kind(
                 KindRead::Is(kind, n)
             }
         }
-        WordRead::Not => {
+        None => {
             let q = num(s, at);
             match q {
-                NumRead::Is(x) => KindRead::Is(0, x.end),
-                NumRead::Not => KindRead::Refused(3),
+                Some(x) => KindRead::Is(0, x.end),
+                None => KindRead::Refused(3),
             }
         }
     }
@@ -103,7 +103,7 @@ pub fn kind_at(
             return KindRead::Refused(3);
         }
         let w = word(s, at + 1);
-        let WordRead::Is(code, n) = w else {
+        let Some((code, n)) = w else {
             return KindRead::Refused(3);
         };
         let g = gather(s, n, depth - 1, words, codes, newest);

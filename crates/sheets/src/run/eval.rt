@@ -7,8 +7,8 @@ ghost use Rattle.sheets.specs.code.run.Evaluating.{KnownWith, LeafWith, EvalsWit
 
 use crate::Evaluated;
 use crate::check::newest::word_place;
-use crate::reader::bytes::{WordRead, byte, word};
-use crate::reader::num::{DoubleRead, double};
+use crate::reader::bytes::{byte, word};
+use crate::reader::num::double;
 use crate::run::apply::apply;
 use crate::run::floats::copy_floats;
 use crate::run::laid::tested;
@@ -57,15 +57,15 @@ fn leaf(
 {
     let w = word(s, at);
     match w {
-        WordRead::Is(code, end) => known(code, end, words, kinds, newest, floats, top),
-        WordRead::Not => {
+        Some((code, end)) => known(code, end, words, kinds, newest, floats, top),
+        None => {
             let q = double(s, at);
             match q {
-                DoubleRead::Is(x, end) => {
+                Some((x, end)) => {
                     floats[top] = x;
                     tested(0, floats, top, end)
                 }
-                DoubleRead::Not => Evaluated::Sticks,
+                None => Evaluated::Sticks,
             }
         }
     }
@@ -93,7 +93,7 @@ pub fn eval(
             return Evaluated::Sticks;
         }
         let w = word(s, at + 1);
-        let WordRead::Is(code, start) = w else {
+        let Some((code, start)) = w else {
             return Evaluated::Sticks;
         };
         return bracket(

@@ -1,6 +1,6 @@
 -- What the pieces of the check answer, said of the walk of Check.antt over what the reader of Reader.antt reads.
 -- No part of what must be believed: they only tie the code to the definitions.
-use Rattle.std.specs.Prelude.{ℕ, zero, suc, ◌+◌, ◌≤◌, ◌≡◌, Bool, List, [], ◌∷◌, map, eqb, leb, length, get_or, take}
+use Rattle.std.specs.Prelude.{ℕ, zero, suc, ◌+◌, ◌≤◌, ◌≡◌, Bool, List, [], ◌∷◌, map, eqb, leb, length, get_or, take, Result, Ok, Err}
 use mir.Val.{has_key}
 use Rattle.frames.specs.declared.Ellipsoid.{Ellipsoid}
 use Rattle.sheets.specs.Text.{Word}
@@ -20,7 +20,6 @@ use Rattle.sheets.specs.Check.{kind_of_expr, kinds_of_exprs, lineᶜ, Walked, pa
 use Rattle.sheets.specs.Machine.{surface}
 use Rattle.sheets.specs.Answers.{Verdict, admitted, refused}
 use Rattle.sheets.specs.declared.reader.lines.WholeLine.{WholeLine}
-use Rattle.sheets.specs.declared.reader.form.FormRead.{FormRead}
 use Rattle.sheets.specs.declared.check.kind_walk.KindRead.{KindRead}
 use Rattle.sheets.specs.declared.check.kind_walk.KeyRead.{KeyRead}
 use Rattle.sheets.specs.declared.check.admit.LineKind.{LineKind}
@@ -139,9 +138,9 @@ LinesWalk (formed ls) e at a = Walks (stepsᶜ (numbered 2 ls) startᶜ) e at a
 LinesWalk (bad_line j) e at a = Refusing form j a
 
 -- the refusal of a line, unless the form pass met a line that is not of the grammar
-unfoldable pub unless_bad : FormRead → ℕ → ℕ → Outcome
-unless_bad (FormRead.Bad j) number line = Outcome.Refuses 3 j
-unless_bad (FormRead.Fine n) number line = Outcome.Refuses number line
+unfoldable pub unless_bad : Result ℕ ℕ → ℕ → ℕ → Outcome
+unless_bad (Err j) number line = Outcome.Refuses 3 j
+unless_bad (Ok n) number line = Outcome.Refuses number line
 
 -- a answers a whole sheet: refusals 3 to 6, or the kind code of each line, the ellipsoid and the place of line 2, which is where line 1 ends
 unfoldable pub Admits : List ℕ → Verdict → Admission → Type 0

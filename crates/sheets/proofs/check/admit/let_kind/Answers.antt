@@ -8,8 +8,8 @@ returns-then-is_barred c = record { is = λ i d st. let-barred _ _ _ i d _ (c.ki
 pub returns-in-Refused : goal.returns-in-Refused
 returns-in-Refused c = record { is = λ i d st. let-refused _ _ _ i d _ (c.kind_at-r.ensures.is d.known st) _ c.in-Refused.is }
 
-pub returns-in-Bad : goal.returns-in-Bad
-returns-in-Bad c = record { is = λ i d st. let-no-end _ _ _ i d _ (c.kind_at-r.ensures.is d.known st) _ _ c.in-Is.is _ (c.is_barred.ensures.is d.known st) c.if-is_barred.false _ c.closing-c.ensures _ c.in-Bad.is }
+pub returns-in-None : goal.returns-in-None
+returns-in-None c = record { is = λ i d st. let-no-end _ _ _ i d _ (c.kind_at-r.ensures.is d.known st) _ _ c.in-Is.is _ (c.is_barred.ensures.is d.known st) c.if-is_barred.false _ c.closing-c.ensures _ c.in-None.is }
 
-pub returns-in-At : goal.returns-in-At
-returns-in-At c = record { is = λ i d st. let-given _ _ _ i d _ (c.kind_at-r.ensures.is d.known st) _ _ c.in-Is.is _ (c.is_barred.ensures.is d.known st) c.if-is_barred.false _ c.closing-c.ensures _ c.in-At.is }
+pub returns-in-Some : goal.returns-in-Some
+returns-in-Some c = record { is = λ i d st. let-given _ _ _ i d _ (c.kind_at-r.ensures.is d.known st) _ _ c.in-Is.is _ (c.is_barred.ensures.is d.known st) c.if-is_barred.false _ c.closing-c.ensures _ c.in-Some.is }

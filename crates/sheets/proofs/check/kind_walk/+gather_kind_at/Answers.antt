@@ -66,13 +66,13 @@ pub kind_at-gather-g-requires : goal.kind_at-gather-g-requires
 kind_at-gather-g-requires t c = (omega arith, tt)
 
 pub kind_at-returns-in-Refused : goal.kind_at-returns-in-Refused
-kind_at-returns-in-Refused t c = record { is = λ ps st. form-refused _ _ _ c.byte-b.ensures.is _ _ c.if-b-eq40.true c.if-depth-eq0.false _ c.word-w.ensures _ _ c.in-Is.is _ (c.gather-g.ensures.is ps st) _ c.in-Refused.is }
+kind_at-returns-in-Refused t c = record { is = λ ps st. form-refused _ _ _ c.byte-b.ensures.is _ _ c.if-b-eq40.true c.if-depth-eq0.false _ c.word-w.ensures _ _ c.in-Some.is _ (c.gather-g.ensures.is ps st) _ c.in-Refused.is }
 
 pub kind_at-returns-then-kind : goal.kind_at-returns-then-kind
-kind_at-returns-then-kind t c = record { is = λ ps st. form-no-row _ _ _ c.byte-b.ensures.is _ _ c.if-b-eq40.true c.if-depth-eq0.false _ c.word-w.ensures _ _ c.in-Is.is _ (c.gather-g.ensures.is ps st) _ _ c.in-Is-g.is _ c.kind_of_row-kind.ensures c.if-kind.true }
+kind_at-returns-then-kind t c = record { is = λ ps st. form-no-row _ _ _ c.byte-b.ensures.is _ _ c.if-b-eq40.true c.if-depth-eq0.false _ c.word-w.ensures _ _ c.in-Some.is _ (c.gather-g.ensures.is ps st) _ _ c.in-Is.is _ c.kind_of_row-kind.ensures c.if-kind.true }
 
 pub kind_at-returns-else-kind : goal.kind_at-returns-else-kind
-kind_at-returns-else-kind t c = record { is = λ ps st. form-row _ _ _ c.byte-b.ensures.is _ _ c.if-b-eq40.true c.if-depth-eq0.false _ c.word-w.ensures _ _ c.in-Is.is _ (c.gather-g.ensures.is ps st) _ _ c.in-Is-g.is _ c.kind_of_row-kind.ensures c.if-kind.false }
+kind_at-returns-else-kind t c = record { is = λ ps st. form-row _ _ _ c.byte-b.ensures.is _ _ c.if-b-eq40.true c.if-depth-eq0.false _ c.word-w.ensures _ _ c.in-Some.is _ (c.gather-g.ensures.is ps st) _ _ c.in-Is.is _ c.kind_of_row-kind.ensures c.if-kind.false }
 
 pub kind_at-returns : goal.kind_at-returns
 kind_at-returns t c = record { is = λ ps st. (c.leaf_kind.ensures.is ps st).is (λ e. c.if-b-eq40.false (c.byte-b.ensures.is ∙ e)) _ }

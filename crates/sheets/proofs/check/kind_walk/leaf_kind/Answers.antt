@@ -4,13 +4,13 @@ use Rattle.sheets.proofs.check.KindSteps.{word-unknown, word-known, num-has, lea
 use Rattle.sheets.proofs.check.kind_walk.leaf_kind.Goals as goal
 
 pub returns-then-kind : goal.returns-then-kind
-returns-then-kind c = record { is = λ ps st. record { is = λ h depth. word-unknown _ _ _ refl depth ps h _ c.word-w.ensures _ _ c.in-Is.is _ _ _ st _ c.find_kind-kind.ensures c.if-kind.true } }
+returns-then-kind c = record { is = λ ps st. record { is = λ h depth. word-unknown _ _ _ refl depth ps h _ c.word-w.ensures _ _ c.in-Some.is _ _ _ st _ c.find_kind-kind.ensures c.if-kind.true } }
 
 pub returns-else-kind : goal.returns-else-kind
-returns-else-kind c = record { is = λ ps st. record { is = λ h depth. word-known _ _ _ refl depth ps h _ c.word-w.ensures _ _ c.in-Is.is _ _ _ st _ c.find_kind-kind.ensures c.if-kind.false } }
+returns-else-kind c = record { is = λ ps st. record { is = λ h depth. word-known _ _ _ refl depth ps h _ c.word-w.ensures _ _ c.in-Some.is _ _ _ st _ c.find_kind-kind.ensures c.if-kind.false } }
 
-pub returns-in-Is-q : goal.returns-in-Is-q
-returns-in-Is-q c = record { is = λ ps st. record { is = λ h depth. num-has _ _ _ refl depth ps h _ c.word-w.ensures c.in-Not.is _ c.num-q.ensures _ c.in-Is-q.is } }
+pub returns-in-Some-q : goal.returns-in-Some-q
+returns-in-Some-q c = record { is = λ ps st. record { is = λ h depth. num-has _ _ _ refl depth ps h _ c.word-w.ensures c.in-None.is _ c.num-q.ensures _ c.in-Some-q.is } }
 
-pub returns-in-Not-q : goal.returns-in-Not-q
-returns-in-Not-q c = record { is = λ ps st. record { is = λ h depth. leaf-none _ _ _ refl depth ps h _ c.word-w.ensures _ c.in-Not.is _ c.num-q.ensures c.in-Not-q.is } }
+pub returns-in-None-q : goal.returns-in-None-q
+returns-in-None-q c = record { is = λ ps st. record { is = λ h depth. leaf-none _ _ _ refl depth ps h _ c.word-w.ensures _ c.in-None.is _ c.num-q.ensures c.in-None-q.is } }
