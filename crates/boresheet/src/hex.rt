@@ -5,7 +5,6 @@ ghost use Rattle.boresheet.specs.code.Readings.{hex_at};
 
 use numbers::float::double;
 use sheets::reader::bytes::byte;
-use sheets::reader::num::DoubleRead;
 
 // 0 to 15 for a hexadecimal digit of either case, else 16.
 pub fn hex_digit(b: u8) -> u64
@@ -33,7 +32,7 @@ pub fn hex_digit(b: u8) -> u64
 }
 
 // The double of the sixteen digits at a place, and the place after them.
-pub fn hex(s: &[u8], at: usize) -> DoubleRead
+pub fn hex(s: &[u8], at: usize) -> Option<(f64, usize)>
     ensures { result ≡ hex_at s.now at }
 {
     let mut bits: u64 = 0;
@@ -43,12 +42,12 @@ pub fn hex(s: &[u8], at: usize) -> DoubleRead
         let b = byte(s, i);
         let d = hex_digit(b);
         if d == 16 {
-            return DoubleRead::Not;
+            return None;
         }
         bits = bits * 16 + d;
         i += 1;
         left -= 1;
     }
     let x = double(bits);
-    DoubleRead::Is(x, i)
+    Some((x, i))
 }

@@ -21,7 +21,6 @@ use Rattle.sheets.specs.Check.{Stateᶜ, lineᶜ, noted, stepᶜ, Walked, passes
 use Rattle.sheets.specs.Admitted.{LineFits}
 use Rattle.sheets.specs.Answers.{ranged, of_walked, of_form}
 use Rattle.sheets.specs.Machine.{surface}
-use Rattle.sheets.specs.declared.reader.form.FormRead.{FormRead}
 use Rattle.sheets.specs.declared.check.first_line.FirstLine.{FirstLine}
 use Rattle.sheets.specs.LineNumbers.{line_number}
 use Rattle.sheets.proofs.reader.Spans.{holds_at}
@@ -226,12 +225,12 @@ module _ (s : List ℕ) (start at passed : ℕ) (names : Names) (m : Midway s st
 
 -- ---- the form pass after a refusal
 
-module _ (o : Form (List Line)) (from : ℕ) (f : FormRead) (ef : f ≡ lines_form from o) (n : ℕ) (r : Refused) where
-  pub unless-bad : f ≡ FormRead.Bad n → (q : Refused) → q ≡ record { refusal = Code.Form; line = n } → q ≡ unless_bad (lines_form from o) r
+module _ (o : Form (List Line)) (from : ℕ) (f : Result ℕ ℕ) (ef : f ≡ lines_form from o) (n : ℕ) (r : Refused) where
+  pub unless-bad : f ≡ Err n → (q : Refused) → q ≡ record { refusal = Code.Form; line = n } → q ≡ unless_bad (lines_form from o) r
   unfolding unless_bad
   unless-bad h q eq = eq ∙ ap (λ f. unless_bad f r) (sym h ∙ ef)
 
-  pub unless-fine : f ≡ FormRead.Fine n → r ≡ unless_bad (lines_form from o) r
+  pub unless-fine : f ≡ Ok n → r ≡ unless_bad (lines_form from o) r
   unfolding unless_bad
   unless-fine h = ap (λ f. unless_bad f r) (sym h ∙ ef)
 

@@ -18,10 +18,7 @@ use Rattle.sheets.specs.Names.{Known, lookup}
 use Rattle.sheets.specs.code.rows.KindCodes.{key_from, kind_or_255, RowKind}
 use Rattle.sheets.specs.Refusals.{Fault, kind, fault, Checked, fine, bad, thenᶜ, known?}
 use Rattle.sheets.specs.Check.{kind_of_expr, kinds_of_exprs}
-use Rattle.sheets.specs.declared.reader.bytes.WordRead.{WordRead}
 use Rattle.sheets.specs.declared.reader.num.Numeral.{Numeral}
-use Rattle.sheets.specs.declared.reader.num.NumRead.{NumRead}
-use Rattle.sheets.specs.declared.reader.expr.Read.{Read}
 use Rattle.sheets.proofs.reader.ReaderLaws.{then-got, close-read}
 use Rattle.sheets.proofs.reader.TokenSteps.{grow, cap}
 use Rattle.sheets.proofs.reader.ExprSteps.{not-close, args_none, args-other, args-step, expr-step, expr-bad, name-read, num-read}
@@ -85,7 +82,7 @@ same-told {j} {k} {m} {n} e = let i : ◌≡◌ {A = ℕ × ℕ} (j, m) (k, n) =
 not_is : {C : Type 0} (why : Code) (k n : ℕ) → Err why ≡ told k n → C
 not_is why k n e = let z : ◌≡◌ {A = ℕ} 0 1 = cc in absurd (omega arith)
 
-pub has-none : (s : List ℕ) (at depth : ℕ) (ps : Known Kind) (why : Code) → Read.Bad ≡ place (read_expr depth s at) → ExprHas s at depth ps (Err why)
+pub has-none : (s : List ℕ) (at depth : ℕ) (ps : Known Kind) (why : Code) → None ≡ place (read_expr depth s at) → ExprHas s at depth ps (Err why)
 has-none s at depth ps why h = record { is = λ x n g. not-read (read_expr depth s at) x n h g; read = λ k n e. not_is why k n e }
 
 said-end : (o : Checked Kind) (n k m : ℕ) → kind_said o n ≡ told k m → n ≡ m
@@ -105,9 +102,9 @@ leaf-word s at depth w n e = go depth (holds_at (ExprAt s depth at) (read_expr d
     go (suc d) h = h
 
 module _ (s : List ℕ) (at b : ℕ) (eb : b ≡ get_or s at 0) (depth : ℕ) (ps : Known Kind) where
-  module _ (h : b ≡ 40 → ⊥) (r : WordRead) (er : r ≡ coded (read_word s at)) where
+  module _ (h : b ≡ 40 → ⊥) (r : Option (ℕ × ℕ)) (er : r ≡ coded (read_word s at)) where
     -- a word: f is the kind code found for it
-    module _ (code n : ℕ) (hr : r ≡ WordRead.Is code n) (names : Names) (st : Standing names ps) (f : Option ℕ) (hf : f ≡ kind_found names code) where
+    module _ (code n : ℕ) (hr : r ≡ Some (code, n)) (names : Names) (st : Standing names ps) (f : Option ℕ) (hf : f ≡ kind_found names code) where
       found-is : (w : Word) → read_expr depth s at ≡ got (word_expr w) n → code ≡ code_of w → f ≡ code_if (lookup w ps)
       found-is w ew ec = found-kind names ps st code f hf w (leaf-word s at depth w n ew) ec
 
@@ -124,15 +121,15 @@ module _ (s : List ℕ) (at b : ℕ) (eb : b ≡ get_or s at 0) (depth : ℕ) (p
           let (j, eo, ek) = some-if (lookup w ps) f (found-is w ew ec) k e in
           has-got s at depth ps _ (word_expr w) n ew (rw eo (ap (λ i. Ok (i, n)) ek))
 
-    pub num-has : r ≡ WordRead.Not → (v : NumRead) → v ≡ counted (read_num s at) → (y : Numeral) → v ≡ NumRead.Is y → ExprHas s at depth ps (Ok (0, y.end))
+    pub num-has : r ≡ None → (v : Option Numeral) → v ≡ counted (read_num s at) → (y : Numeral) → v ≡ Some y → ExprHas s at depth ps (Ok (0, y.end))
     unfolding kind_of_expr kind_said
     num-has hr v ev y hv = let (q, eq, ey) = num-read s at b eb depth h r er hr v ev y hv in has-got s at depth ps _ (num_expr q) y.end eq refl
 
-    pub leaf-none : (why : Code) → r ≡ WordRead.Not → (v : NumRead) → v ≡ counted (read_num s at) → v ≡ NumRead.Not → ExprHas s at depth ps (Err why)
+    pub leaf-none : (why : Code) → r ≡ None → (v : Option Numeral) → v ≡ counted (read_num s at) → v ≡ None → ExprHas s at depth ps (Err why)
     leaf-none why hr v ev hv = has-none s at depth ps why (expr-bad s at b eb depth h r er hr v ev hv)
 
   -- a bracket: g is what its arguments came to
-  module _ (h : b ≡ 40) (d : depth ≡ 0 → ⊥) (r : WordRead) (er : r ≡ coded (read_word s (at + 1))) (code m : ℕ) (hr : r ≡ WordRead.Is code m) (g : Result (ℕ × ℕ) Code) (hg : ArgsHave s m (depth - 1) 5 0 ps g) where
+  module _ (h : b ≡ 40) (d : depth ≡ 0 → ⊥) (r : Option (ℕ × ℕ)) (er : r ≡ coded (read_word s (at + 1))) (code m : ℕ) (hr : r ≡ Some (code, m)) (g : Result (ℕ × ℕ) Code) (hg : ArgsHave s m (depth - 1) 5 0 ps g) where
     form-has : (q : Result (ℕ × ℕ) Code)
         → ((w : Word) → IsWord w → code ≡ code_of w → (o : Checked (List Kind)) (n : ℕ) → g ≡ key_said 0 o n → q ≡ kind_said (thenᶜ o (λ js. known? kind (find_kind table w js))) n)
         → ((k n : ℕ) → q ≡ Ok (k, n) → (x : Expr) × (read_expr depth s at ≡ got x n))
@@ -193,7 +190,7 @@ module _ (s : List ℕ) (at b : ℕ) (eb : b ≡ get_or s at 0) (depth : ℕ) (p
 
 -- ---- the arguments
 
-have-none : (s : List ℕ) (at depth left key : ℕ) (ps : Known Kind) (why : Code) → Read.Bad ≡ place (read_args (read_expr depth s) left s at) → ArgsHave s at depth left key ps (Err why)
+have-none : (s : List ℕ) (at depth left key : ℕ) (ps : Known Kind) (why : Code) → None ≡ place (read_args (read_expr depth s) left s at) → ArgsHave s at depth left key ps (Err why)
 have-none s at depth left key ps why h = record { is = λ xs n g. not-read (read_args (read_expr depth s) left s at) xs n h g; read = λ k n e. not_is why k n e }
 
 module _ (s : List ℕ) (at b : ℕ) (eb : b ≡ get_or s at 0) (depth left key : ℕ) (ps : Known Kind) where

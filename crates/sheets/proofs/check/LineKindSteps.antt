@@ -22,7 +22,6 @@ use Rattle.sheets.specs.Scopes.{Scope, give_if}
 use Rattle.sheets.specs.code.rows.KindCodes.{row_codes}
 use Rattle.sheets.specs.Refusals.{fault, Checked, fine, bad, thenᶜ}
 use Rattle.sheets.specs.Check.{kind_of_expr, lineᶜ}
-use Rattle.sheets.specs.declared.reader.expr.Read.{Read}
 use Rattle.sheets.specs.declared.reader.lines.NameAt.{NameAt}
 use Rattle.sheets.specs.declared.reader.lines.WholeLine.{WholeLine}
 use Rattle.sheets.proofs.reader.ReaderLaws.{then-got}
@@ -157,7 +156,7 @@ module _ (s : List ℕ) (at code i : ℕ) (d : Scope Kind) (q : Result (ℕ × �
   LetRead p = (w : Word) (y : LineKind) → p ≡ Ok y → (l : Line) × (rest s (let_word w) at ≡ got l y.next)
 
   let-is : (p : Result LineKind Code)
-      → ((w : Word) → IsWord w → code_of w ≡ code → (o : Checked Kind) (j m : ℕ) → q ≡ kind_said o j → closed s j ≡ Read.At m → p ≡ line_said w (thenᶜ o (given w (barred w d.known))) m)
+      → ((w : Word) → IsWord w → code_of w ≡ code → (o : Checked Kind) (j m : ℕ) → q ≡ kind_said o j → closed s j ≡ Some m → p ≡ line_said w (thenᶜ o (given w (barred w d.known))) m)
       → LetRead p
       → LetHas p
   unfolding rest lineᶜ
@@ -175,20 +174,20 @@ module _ (s : List ℕ) (at code i : ℕ) (d : Scope Kind) (q : Result (ℕ × �
   unfolding kind_said line_said
   let-refused why h = let-is _ go (λ w y e. not_line why y e)
     where
-      go : (w : Word) → IsWord w → code_of w ≡ code → (o : Checked Kind) (j m : ℕ) → q ≡ kind_said o j → closed s j ≡ Read.At m
+      go : (w : Word) → IsWord w → code_of w ≡ code → (o : Checked Kind) (j m : ℕ) → q ≡ kind_said o j → closed s j ≡ Some m
           → Err why ≡ line_said w (thenᶜ o (given w (barred w d.known))) m
       go w hw ec (fine k) j m p et = let z : ◌≡◌ {A = ℕ} 0 1 = cc in absurd (omega arith)
       go w hw ec (bad f) j m p et = let n : why ≡ code_for (fault f) = cc in ap (λ k. Err k) n
 
   module _ (f end : ℕ) (h : q ≡ Ok (f, end)) (t : Bool) (ht : BarredWord code d.known t) where
     let-fine : (p : Result LineKind Code)
-        → ((w : Word) (k : Kind) (m : ℕ) → code_of w ≡ code → f ≡ kind_code k → closed s end ≡ Read.At m → p ≡ line_said w (given w t k) m)
+        → ((w : Word) (k : Kind) (m : ℕ) → code_of w ≡ code → f ≡ kind_code k → closed s end ≡ Some m → p ≡ line_said w (given w t k) m)
         → LetRead p
         → LetHas p
     unfolding kind_said
     let-fine p g u = let-is p go u
       where
-        go : (w : Word) → IsWord w → code_of w ≡ code → (o : Checked Kind) (j m : ℕ) → q ≡ kind_said o j → closed s j ≡ Read.At m → p ≡ line_said w (thenᶜ o (given w (barred w d.known))) m
+        go : (w : Word) → IsWord w → code_of w ≡ code → (o : Checked Kind) (j m : ℕ) → q ≡ kind_said o j → closed s j ≡ Some m → p ≡ line_said w (thenᶜ o (given w (barred w d.known))) m
         go w hw ec (fine k) j m e et =
             let same = same-told (sym h ∙ e) in
             let ek : f ≡ kind_code k = same.0 in
@@ -200,11 +199,11 @@ module _ (s : List ℕ) (at code i : ℕ) (d : Scope Kind) (q : Result (ℕ × �
     unfolding line_said
     let-barred h = let-fine _ (λ w k m ec ek et. rw h refl) (λ w y e. not_line Code.Name y e)
 
-    module _ (et : t ≡ false) (c : Read) (ez : c ≡ closed s end) where
-      pub let-no-end : (why : Code) → c ≡ Read.Bad → LetHas (Err why)
+    module _ (et : t ≡ false) (c : Option ℕ) (ez : c ≡ closed s end) where
+      pub let-no-end : (why : Code) → c ≡ None → LetHas (Err why)
       let-no-end why j = let-fine _ (λ w k m ec ek el. let z : ◌≡◌ {A = ℕ} 0 1 = cc in absurd (omega arith)) (λ w y e. not_line why y e)
 
-      pub let-given : (next : ℕ) → c ≡ Read.At next → LetHas (line_at code f next)
+      pub let-given : (next : ℕ) → c ≡ Some next → LetHas (line_at code f next)
       unfolding rest line_said
       let-given next j = let-fine _ (λ w k m ec ek el. let en : next ≡ m = cc in rw et (line_same _ _ _ _ _ _ (sym ec) ek en)) (λ w y e.
           let (x, ex) = hq.read f end h in

@@ -11,8 +11,7 @@ ghost use Rattle.sheets.specs.code.check.Walking.{ForKnown, BarredWord, ForScope
 use crate::check::first_line::{FirstLine, first_line};
 use crate::check::kind_walk::kind_at;
 use crate::check::names::Names;
-use crate::reader::expr::Read;
-use crate::reader::form::{FormRead, form_from};
+use crate::reader::form::form_from;
 use crate::reader::lines::{LineHead, WholeLine, closing, is_short, line_head};
 use crate::refusals::{Refusal, Refused};
 use crate::rows::kinds::opens;
@@ -85,11 +84,10 @@ fn let_kind(s: &[u8], code: u64, at: usize, names: &Names) -> Result<LineKind, R
     if is_barred(names, code) {
         return Err(Refusal::Name);
     }
-    let c = closing(s, end);
-    match c {
-        Read::Bad => Err(Refusal::Form),
-        Read::At(next) => Ok(LineKind { code, kind, next }),
-    }
+    let Some(next) = closing(s, end) else {
+        return Err(Refusal::Form);
+    };
+    Ok(LineKind { code, kind, next })
 }
 
 // A line that stands at `at`, where it has at most 200 bytes; else refusal 3.
@@ -106,14 +104,13 @@ fn short_kind(at: usize, line: LineKind) -> Result<LineKind, Refusal>
 fn line_kind(s: &[u8], at: usize, names: &Names) -> Result<LineKind, Refusal>
     ensures { ForScope names.now (λ i c. LineHas (read_line s.now at) i c result) }
 {
-    let h = line_head(s, at);
-    match h {
-        LineHead::Bad => Err(Refusal::Form),
-        LineHead::Let(name, value) => {
+    match line_head(s, at) {
+        None => Err(Refusal::Form),
+        Some(LineHead::Let(name, value)) => {
             let r = let_kind(s, name.code, value, names)?;
             short_kind(at, r)
         }
-        LineHead::Whole(line, next) => {
+        Some(LineHead::Whole(line, next)) => {
             let r = whole_kind(line, next, names)?;
             short_kind(at, r)
         }
@@ -127,8 +124,8 @@ fn unless_bad(s: &[u8], at: usize, from: usize, refused: Refused) -> Refused
 {
     let f = form_from(s, at, from);
     match f {
-        FormRead::Bad(bad) => Refusal::Form.at(bad),
-        FormRead::Fine(_) => refused,
+        Err(bad) => Refusal::Form.at(bad),
+        Ok(_) => refused,
     }
 }
 

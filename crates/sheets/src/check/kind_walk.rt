@@ -4,8 +4,8 @@
 ghost use Rattle.sheets.specs.code.check.Walking.{ForKnown, LeafHas, ExprHas, ArgsHave};
 
 use crate::check::names::Names;
-use crate::reader::bytes::{WordRead, byte, word};
-use crate::reader::num::{NumRead, num};
+use crate::reader::bytes::{byte, word};
+use crate::reader::num::num;
 use crate::refusals::Refusal;
 use crate::rows::kinds::kind_of_row;
 
@@ -13,22 +13,16 @@ use crate::rows::kinds::kind_of_row;
 fn leaf_kind(s: &[u8], at: usize, names: &Names) -> Result<(u8, usize), Refusal>
     ensures { ForKnown names.now (λ ps. LeafHas s.now at ps result) }
 {
-    let w = word(s, at);
-    match w {
-        WordRead::Is(code, n) => {
-            let Some(kind) = names.kind(code) else {
-                return Err(Refusal::Name);
-            };
-            Ok((kind, n))
-        }
-        WordRead::Not => {
-            let q = num(s, at);
-            match q {
-                NumRead::Is(x) => Ok((0, x.end)),
-                NumRead::Not => Err(Refusal::Form),
-            }
-        }
-    }
+    let Some((code, end)) = word(s, at) else {
+        let Some(x) = num(s, at) else {
+            return Err(Refusal::Form);
+        };
+        return Ok((0, x.end));
+    };
+    let Some(kind) = names.kind(code) else {
+        return Err(Refusal::Name);
+    };
+    Ok((kind, end))
 }
 
 // The kind of the expression at a place, with at most `depth` brackets in each other: its code, and the place after the expression.
@@ -42,7 +36,7 @@ pub fn kind_at(s: &[u8], at: usize, depth: usize, names: &Names) -> Result<(u8, 
             return Err(Refusal::Form);
         }
         let w = word(s, at + 1);
-        let WordRead::Is(code, n) = w else {
+        let Some((code, n)) = w else {
             return Err(Refusal::Form);
         };
         let (key, end) = gather(s, n, depth - 1, names)?;

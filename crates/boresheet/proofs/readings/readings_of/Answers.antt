@@ -20,12 +20,12 @@ returns-then-s-at c =
 pub returns-in_default : goal.returns-in_default
 returns-in_default c =
     let v = c.loop-i.invariant in
-    file-bad _ _ _ _ v.1 v.0 _ v.2 c.loop-i-test.true c.if-s-at.false _ c.reading-r.ensures c.in_default.is _ c.no_readings-in_default.ensures
+    file-bad _ _ _ _ v.1 v.0 _ v.2 c.loop-i-test.true c.if-s-at.false _ c.reading.ensures c.in_default.is _ c.no_readings-in_default.ensures
 
 pub loop-i-preserved : goal.loop-i-preserved
 loop-i-preserved c =
     let v = c.loop-i.invariant in
-    (omega arith, simp length-set v.1, file-turn _ _ _ _ v.1 v.0 _ v.2 c.loop-i-test.true c.if-s-at.false _ c.reading-r.ensures _ _ c.in-Is.is, reading-next _ _ _ c.reading-r.ensures _ _ c.in-Is.is _ v.3)
+    (omega arith, simp length-set v.1, file-turn _ _ _ _ v.1 v.0 _ v.2 c.loop-i-test.true c.if-s-at.false _ c.reading.ensures _ _ c.in-Some.is, reading-next _ _ _ c.reading.ensures _ _ c.in-Some.is _ v.3)
 
 pub returns-then-at-s : goal.returns-then-at-s
 returns-then-at-s c =

@@ -25,7 +25,6 @@ use Rattle.sheets.specs.Check.{kind_of_expr, kinds_of_exprs, lineᶜ, Walked, pa
 use Rattle.sheets.specs.Machine.{surface}
 use Rattle.sheets.specs.Answers.{Verdict, admitted, refused}
 use Rattle.sheets.specs.declared.reader.lines.WholeLine.{WholeLine}
-use Rattle.sheets.specs.declared.reader.form.FormRead.{FormRead}
 use Rattle.sheets.specs.declared.check.admit.LineKind.{LineKind}
 use Rattle.sheets.specs.declared.check.admit.Admission.{Admission}
 
@@ -149,9 +148,9 @@ LinesWalk (formed ls) e at a = Walks (stepsᶜ (numbered 2 ls) startᶜ) e at a
 LinesWalk (bad_line j) e at a = Refusing form j a
 
 -- the refusal of a line, unless the form pass met a line that is not of the grammar
-unfoldable pub unless_bad : FormRead → Refused → Refused
-unless_bad (FormRead.Bad j) r = record { refusal = Code.Form; line = j }
-unless_bad (FormRead.Fine n) r = r
+unfoldable pub unless_bad : Result ℕ ℕ → Refused → Refused
+unless_bad (Err j) r = record { refusal = Code.Form; line = j }
+unless_bad (Ok n) r = r
 
 -- a answers a whole sheet: refusals 3 to 6, or the kind code of each line, the ellipsoid and the place of line 2, which is where line 1 ends
 unfoldable pub Admits : List ℕ → Verdict → Outcome → Type 0

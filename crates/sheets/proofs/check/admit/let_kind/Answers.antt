@@ -12,8 +12,8 @@ pub returns-in_err-kind : goal.returns-in_err-kind
 returns-in_err-kind c =
     let p = err_from_is_err_and c.from_residual.result c.from_residual.ensures.1 in rw (p.1 ∙ ap Err p.2) (record { is = λ i d st. let-refused _ _ _ i d _ (c.kind_at.ensures.is d.known st) _ c.in_err-kind.was })
 
-pub returns-in-Bad : goal.returns-in-Bad
-returns-in-Bad c = record { is = λ i d st. let-no-end _ _ _ i d _ (c.kind_at.ensures.is d.known st) _ _ c.in_ok-kind.was _ (c.is_barred.ensures.is d.known st) c.if-is_barred.false _ c.closing-c.ensures _ c.in-Bad.is }
+pub returns-in_default : goal.returns-in_default
+returns-in_default c = record { is = λ i d st. let-no-end _ _ _ i d _ (c.kind_at.ensures.is d.known st) _ _ c.in_ok-kind.was _ (c.is_barred.ensures.is d.known st) c.if-is_barred.false _ c.closing.ensures _ c.in_default.is }
 
-pub returns-in-At : goal.returns-in-At
-returns-in-At c = record { is = λ i d st. let-given _ _ _ i d _ (c.kind_at.ensures.is d.known st) _ _ c.in_ok-kind.was _ (c.is_barred.ensures.is d.known st) c.if-is_barred.false _ c.closing-c.ensures _ c.in-At.is }
+pub returns : goal.returns
+returns c = record { is = λ i d st. let-given _ _ _ i d _ (c.kind_at.ensures.is d.known st) _ _ c.in_ok-kind.was _ (c.is_barred.ensures.is d.known st) c.if-is_barred.false _ c.closing.ensures _ c.in-Some.is }
