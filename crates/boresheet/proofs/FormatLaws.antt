@@ -1,4 +1,5 @@
 -- The reader of files of readings reads exactly the files of the form, and says of any other what it comes to. Assumes nothing.
+use Rattle.std.specs.Prelude.{Option, Some, None}
 use Prim.Native.Nat.{ℕ, zero, suc, ◌+◌, ◌-◌, ◌*◌, ◌<◌, ◌≤◌}
 use native.Mathlib.Omega.{arith}
 use mathlib.Core.Path.{◌≡◌, refl, sym, ap, subst, ◌∙◌}
@@ -18,16 +19,15 @@ use Rattle.sheets.specs.Limits.{num_value}
 use Rattle.sheets.specs.code.reader.Codes.{word_char, digit}
 use Rattle.sheets.specs.code.reader.Reader.{Got, none, got, read_num}
 use Rattle.sheets.specs.code.reader.Views.{doubled_by, doubled}
-use Rattle.sheets.specs.declared.reader.num.DoubleRead.{DoubleRead}
-use Rattle.sheets.specs.declared.reader.num.DoubleRead.TheVariants.{Is, Not}
 use Rattle.sheets.proofs.reader.Spans.{Spans, spans-append, spans-split, spans-end, spans-drop, drop-spans, holds_at}
 use Rattle.sheets.proofs.reader.ReaderLaws.{byte_inside}
+use Rattle.sheets.proofs.reader.Viewed.{some_pair}
 use Rattle.sheets.proofs.reader.TokenLaws.{Stops, NumAt, num-sound, num-complete}
 use Rattle.boresheet.specs.declared.readings.BadReadings.{BadReadings}
 use Rattle.boresheet.specs.Format.{hex_number, HexDigit, hexadecimal_from, Line, Lines, ComesTo, all, short, bad, long}
 use Rattle.boresheet.specs.code.Readings.{hex_if, hex_from, hex_at, end_if, ended_at, or_else, reading_at, lastly, line_if, readings_from, readings_of}
 
-not_is : {C : Type 0} (x : Float) (n : ℕ) → Not ≡ Is x n → C
+not_is : {C : Type 0} (x : Float) (n : ℕ) → ◌≡◌ {A = Option (Float × ℕ)} None (Some (x, n)) → C
 not_is x n e = let z : ◌≡◌ {A = ℕ} 0 1 = cc in absurd (omega arith)
 
 -- ---- hexadecimal digits
@@ -55,23 +55,23 @@ hex-most b h = hex-range b 48 57 48 _ (omega arith) (hex-range b 65 70 55 _ (ome
 
 module _ (s : List ℕ) where
   -- what the reader took as digits are digits
-  hex-sound : (k n at m : ℕ) (x : Float) → hex_from k n s at ≡ Is x m → (ds : List ℕ) × Each HexDigit ds × (length ds ≡ k) × Spans s ds at m × (x ≡ of_bits binary64 (hexadecimal_from n ds))
+  hex-sound : (k n at m : ℕ) (x : Float) → hex_from k n s at ≡ Some (x, m) → (ds : List ℕ) × Each HexDigit ds × (length ds ≡ k) × Spans s ds at m × (x ≡ of_bits binary64 (hexadecimal_from n ds))
   unfolding hex_from hex_if hexadecimal_from Spans
-  hex-sound zero n at m x e = ([], tt, refl, (cc), (cc))
+  hex-sound zero n at m x e = let (v, j) = some_pair _ _ _ _ e in ([], tt, refl, j, sym v)
   hex-sound (suc k) n at m x e = go (eqb (hex_number (get_or s at 0)) 16) refl (hex-sound k (n * 16 + hex_number (get_or s at 0)) (at + 1) m x) e
     where
       go : (b : Bool) → eqb (hex_number (get_or s at 0)) 16 ≡ b
-          → (hex_from k (n * 16 + hex_number (get_or s at 0)) s (at + 1) ≡ Is x m → (ds : List ℕ) × Each HexDigit ds × (length ds ≡ k) × Spans s ds (at + 1) m × (x ≡ of_bits binary64 (hexadecimal_from (n * 16 + hex_number (get_or s at 0)) ds)))
-          → hex_if b (hex_from k (n * 16 + hex_number (get_or s at 0)) s) at ≡ Is x m
+          → (hex_from k (n * 16 + hex_number (get_or s at 0)) s (at + 1) ≡ Some (x, m) → (ds : List ℕ) × Each HexDigit ds × (length ds ≡ k) × Spans s ds (at + 1) m × (x ≡ of_bits binary64 (hexadecimal_from (n * 16 + hex_number (get_or s at 0)) ds)))
+          → hex_if b (hex_from k (n * 16 + hex_number (get_or s at 0)) s) at ≡ Some (x, m)
           → (ds : List ℕ) × Each HexDigit ds × (length ds ≡ suc k) × Spans s ds at m × (x ≡ of_bits binary64 (hexadecimal_from n ds))
       go true h rest e = not_is x m e
       go false h rest e =
           let (ds, each, l, p, v) = rest e in
           (get_or s at 0 ∷ ds, (hex-most (get_or s at 0) (eqb-false _ _ h), each), ap suc l, (refl, p), v)
 
-  hex-complete : (ds : List ℕ) (k n at m : ℕ) → length ds ≡ k → Each HexDigit ds → Spans s ds at m → hex_from k n s at ≡ Is (of_bits binary64 (hexadecimal_from n ds)) m
+  hex-complete : (ds : List ℕ) (k n at m : ℕ) → length ds ≡ k → Each HexDigit ds → Spans s ds at m → hex_from k n s at ≡ Some (of_bits binary64 (hexadecimal_from n ds), m)
   unfolding hex_from hex_if hexadecimal_from Spans
-  hex-complete [] zero n at m l h p = ap (Is (of_bits binary64 n)) p
+  hex-complete [] zero n at m l h p = ap (λ i. Some (of_bits binary64 n, i)) p
   hex-complete [] (suc k) n at m l h p = absurd (omega arith)
   hex-complete (b ∷ ds) zero n at m l h p = absurd (omega arith)
   hex-complete (b ∷ ds) (suc k) n at m l h p =
@@ -94,45 +94,44 @@ module _ (s : List ℕ) where
   lf-stops n h = (rw h refl, rw h refl, λ e. omega arith)
 
   -- what was read and the LF behind it
-  ended-sound : (d : DoubleRead) (x : Float) (n : ℕ) → ended_at s d ≡ Is x n → (m : ℕ) × (d ≡ Is x m) × (get_or s m 0 ≡ 10) × (n ≡ m + 1)
+  ended-sound : (d : Option (Float × ℕ)) (x : Float) (n : ℕ) → ended_at s d ≡ Some (x, n) → (m : ℕ) × (d ≡ Some (x, m)) × (get_or s m 0 ≡ 10) × (n ≡ m + 1)
   unfolding ended_at end_if
-  ended-sound Not x n e = not_is x n e
-  ended-sound (Is y m) x n e = go (eqb (get_or s m 0) 10) refl e
+  ended-sound None x n e = not_is x n e
+  ended-sound (Some (y, m)) x n e = go (eqb (get_or s m 0) 10) refl e
     where
-      go : (b : Bool) → eqb (get_or s m 0) 10 ≡ b → end_if b y m ≡ Is x n → (k : ℕ) × (Is y m ≡ Is x k) × (get_or s k 0 ≡ 10) × (n ≡ k + 1)
-      go true q e = let v : y ≡ x = cc in let j : n ≡ m + 1 = cc in (m, ap (λ z. Is z m) v, eqb-true _ _ q, j)
+      go : (b : Bool) → eqb (get_or s m 0) 10 ≡ b → end_if b y m ≡ Some (x, n) → (k : ℕ) × ◌≡◌ {A = Option (Float × ℕ)} (Some (y, m)) (Some (x, k)) × (get_or s k 0 ≡ 10) × (n ≡ k + 1)
+      go true q e = let (v, j) = some_pair _ _ _ _ e in (m, ap (λ z. Some (z, m)) v, eqb-true _ _ q, sym j)
       go false q e = not_is x n e
 
-  ended-complete : (x : Float) (m : ℕ) → get_or s m 0 ≡ 10 → ended_at s (Is x m) ≡ Is x (m + 1)
+  ended-complete : (x : Float) (m : ℕ) → get_or s m 0 ≡ 10 → ended_at s (Some (x, m)) ≡ Some (x, m + 1)
   unfolding ended_at end_if
   ended-complete x m h = rw (eq-eqb (get_or s m 0) 10 h) refl
 
-  doubled-sound : (at : ℕ) (x : Float) (m : ℕ) → doubled (read_num s at) ≡ Is x m → (q : Num) × IsNum q × Spans s (print_num q) at m × (x ≡ num_value q)
+  doubled-sound : (at : ℕ) (x : Float) (m : ℕ) → doubled (read_num s at) ≡ Some (x, m) → (q : Num) × IsNum q × Spans s (print_num q) at m × (x ≡ num_value q)
   unfolding doubled_by
   doubled-sound at x m e = go (read_num s at) refl e
     where
-      go : (o : Got Num) → read_num s at ≡ o → doubled o ≡ Is x m → (q : Num) × IsNum q × Spans s (print_num q) at m × (x ≡ num_value q)
+      go : (o : Got Num) → read_num s at ≡ o → doubled o ≡ Some (x, m) → (q : Num) × IsNum q × Spans s (print_num q) at m × (x ≡ num_value q)
       go none eo e = not_is x m e
       go (got q n) eo e =
-          let j : m ≡ n = cc in
-          let v : x ≡ num_value q = cc in
+          let (v, j) = some_pair _ _ _ _ e in
           let (p, h) = holds_at (NumAt s at) (read_num s at) q n (num-sound s at) eo in
-          (q, h, (rw j p), v)
+          (q, h, (rw (sym j) p), sym v)
 
   -- a line that was read stands there
-  pub line-sound : (at : ℕ) (x : Float) (n : ℕ) → reading_at s at ≡ Is x n → (t : List ℕ) × Line t x × Spans s (t ++ lf) at n × (n ≤ length s)
+  pub line-sound : (at : ℕ) (x : Float) (n : ℕ) → reading_at s at ≡ Some (x, n) → (t : List ℕ) × Line t x × Spans s (t ++ lf) at n × (n ≤ length s)
   unfolding reading_at hex_at or_else Spans
   line-sound at x n e = go (ended_at s (doubled (read_num s at))) refl e
     where
       ended : (t : List ℕ) → Line t x → (m : ℕ) → Spans s t at m → get_or s m 0 ≡ 10 → n ≡ m + 1 → (t : List ℕ) × Line t x × Spans s (t ++ lf) at n × (n ≤ length s)
       ended t l m p h j = (t, l, spans-append s t lf at m n p (h, sym j), omega (arith, byte_inside s m 10 h (omega arith), j))
 
-      go : (d : DoubleRead) → ended_at s (doubled (read_num s at)) ≡ d → or_else d (ended_at s (hex_from 16 0 s at)) ≡ Is x n → (t : List ℕ) × Line t x × Spans s (t ++ lf) at n × (n ≤ length s)
-      go (Is y k) ed e =
+      go : (d : Option (Float × ℕ)) → ended_at s (doubled (read_num s at)) ≡ d → or_else d (ended_at s (hex_from 16 0 s at)) ≡ Some (x, n) → (t : List ℕ) × Line t x × Spans s (t ++ lf) at n × (n ≤ length s)
+      go (Some (y, k)) ed e =
           let (m, em, h, j) = ended-sound (doubled (read_num s at)) x n (ed ∙ e) in
           let (q, iq, p, v) = doubled-sound at x m em in
           ended (print_num q) (inl (q, iq, refl, v)) m p h j
-      go Not ed e =
+      go None ed e =
           let (m, em, h, j) = ended-sound (hex_from 16 0 s at) x n e in
           let (ds, each, l, p, v) = hex-sound 16 0 at m x em in
           ended ds (inr (each, l, v)) m p h j
@@ -159,7 +158,7 @@ module _ (s : List ℕ) where
 
   -- a line that stands there is read
   line-complete : (at : ℕ) (t r : List ℕ) (x : Float) → drop at s ≡ t ⌢ lf ⌢ r → Line t x
-      → (n : ℕ) × (reading_at s at ≡ Is x n) × (drop n s ≡ r) × (at < length s) × (n ≤ length s)
+      → (n : ℕ) × (reading_at s at ≡ Some (x, n)) × (drop n s ≡ r) × (at < length s) × (n ≤ length s)
   unfolding reading_at hex_at or_else doubled_by Spans
   line-complete at t r x e l =
       let (p, d) = drop-spans s t (10 ∷ r) at e in
@@ -167,20 +166,20 @@ module _ (s : List ℕ) where
       let h : get_or s (at + length t) 0 ≡ 10 = p10.0 in
       (at + length t + 1, read (at + length t) p h l, d10, omega (arith, byte_inside s (at + length t) 10 h (omega arith)), omega (arith, byte_inside s (at + length t) 10 h (omega arith)))
     where
-      not-num : (m : ℕ) → Spans s t at m → m ≡ at + 16 → Each HexDigit t → (d : DoubleRead) → ended_at s (doubled (read_num s at)) ≡ d → d ≡ Not
-      not-num m p z each Not ed = refl
-      not-num m p z each (Is y k) ed =
+      not-num : (m : ℕ) → Spans s t at m → m ≡ at + 16 → Each HexDigit t → (d : Option (Float × ℕ)) → ended_at s (doubled (read_num s at)) ≡ d → d ≡ None
+      not-num m p z each None ed = refl
+      not-num m p z each (Some (y, k)) ed =
           let (i, em, h, j) = ended-sound (doubled (read_num s at)) y k ed in
           let (q, iq, pq, v) = doubled-sound at y i em in
           absurd (not-both at i q iq pq h t each (rw (sym z) p))
 
-      read : (m : ℕ) → Spans s t at m → get_or s m 0 ≡ 10 → Line t x → reading_at s at ≡ Is x (m + 1)
+      read : (m : ℕ) → Spans s t at m → get_or s m 0 ≡ 10 → Line t x → reading_at s at ≡ Some (x, m + 1)
       read m p h (inl (q, iq, et, ex)) =
           let c = (num-complete s q at m (rw et at p) iq (lf-stops m h)).0 in
-          rw (c, ended-complete (num_value q) m h) (ap (λ z. Is z (m + 1)) (sym ex))
+          rw (c, ended-complete (num_value q) m h) (ap (λ z. Some (z, m + 1)) (sym ex))
       read m p h (inr (each, l, ex)) =
           let z : m ≡ at + 16 = omega (arith, spans-end s t at m p) in
-          rw (not-num m p z each (ended_at s (doubled (read_num s at))) refl, hex-complete t 16 0 at m l each p, ended-complete (of_bits binary64 (hexadecimal_from 0 t)) m h) (ap (λ z. Is z (m + 1)) (sym ex))
+          rw (not-num m p z each (ended_at s (doubled (read_num s at))) refl, hex-complete t 16 0 at m l each p, ended-complete (of_bits binary64 (hexadecimal_from 0 t)) m h) (ap (λ z. Some (z, m + 1)) (sym ex))
 
 -- ---- the file
 
@@ -202,12 +201,12 @@ module _ (s : List ℕ) where
       Rest : Type 0
       Rest = (x : Float) (n : ℕ) (v : List ℕ) → n ≤ length s → s ≡ v ++ drop n s → Lines v (xs ++ (x ∷ [])) → length (xs ++ (x ∷ [])) + k ≡ 16 → ComesTo s (readings_from k (xs ++ (x ∷ [])) s n)
 
-      on : at < length s → Rest → (d : DoubleRead) → reading_at s at ≡ d → ComesTo s (line_if false d xs (λ x n. readings_from k (xs ++ (x ∷ [])) s n))
-      on h rest Not ed =
+      on : at < length s → Rest → (d : Option (Float × ℕ)) → reading_at s at ≡ d → ComesTo s (line_if false d xs (λ x n. readings_from k (xs ++ (x ∷ [])) s n))
+      on h rest None ed =
           let i = drop-cons s at 0 h in
           bad u (get_or s at 0) (drop (suc at) s) xs (e ∙ ap (λ v. u ++ v) i) l (omega arith)
           (λ (t, r, x, b, g). let (n, er, d, inside, w) = line-complete s at t r x (i ∙ b) g in not_is x n (sym ed ∙ er))
-      on h rest (Is x n) ed =
+      on h rest (Some (x, n)) ed =
           let (t, g, p, w) = line-sound s at x n ed in
           rest x n (u ++ (t ++ lf)) w (e ∙ ap (λ v. u ++ v) (spans-drop s (t ++ lf) at n p w) ∙ sym (append_assoc u (t ++ lf) (drop n s))) (lines_more xs u t x l g)
           (omega (arith, length-append xs (x ∷ [])))

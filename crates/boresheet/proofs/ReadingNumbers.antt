@@ -1,4 +1,5 @@
 -- The number of a line of a file of readings is one more than the LFs before it: from each line to the next, and of the line that is told to be none. Assumes nothing.
+use Rattle.std.specs.Prelude.{Option, Some}
 use Prim.Native.Nat.{ℕ, ◌+◌}
 use native.Mathlib.Omega.{arith}
 use mathlib.Core.Path.{◌≡◌, refl, sym, ap, subst, ◌∙◌}
@@ -9,8 +10,6 @@ use lib.ListN.{length}
 use lib.Ieee.{Float}
 use Rattle.sheets.specs.Text.{◌⌢◌, lf}
 use Rattle.sheets.specs.LineNumbers.{count_lf, line_number}
-use Rattle.sheets.specs.declared.reader.num.DoubleRead.{DoubleRead}
-use Rattle.sheets.specs.declared.reader.num.DoubleRead.TheVariants.{Is}
 use Rattle.sheets.proofs.reader.LineNumbers.{count-append, NoLF, each_none, num-none, WholeLines, HasLine, begins, one_further}
 use Rattle.boresheet.specs.declared.readings.BadReadings.{BadReadings}
 use Rattle.boresheet.specs.Format.{hex_number, HexDigit, Line, Lines, ComesTo, all, short, bad, long}
@@ -23,7 +22,7 @@ line-none t x (inl (q, h, e, v)) = subst NoLF (sym e) (num-none q h)
 line-none t x (inr (h, n, v)) = each_none HexDigit (λ b d e. omega (arith, d, ap (λ c. hex_number c) e, hex-lf)) t h
 
 -- the turn of the loop of `readings_of`
-pub reading-next : (s : List ℕ) (at : ℕ) (r : DoubleRead) → r ≡ reading_at s at → (x : Float) (n : ℕ) → r ≡ Is x n → (i : ℕ) → i ≡ line_number s at → i + 1 ≡ line_number s n
+pub reading-next : (s : List ℕ) (at : ℕ) (r : Option (Float × ℕ)) → r ≡ reading_at s at → (x : Float) (n : ℕ) → r ≡ Some (x, n) → (i : ℕ) → i ≡ line_number s at → i + 1 ≡ line_number s n
 reading-next s at r er x n e = let (t, l, p, h) = line-sound s at x n (sym er ∙ e) in one_further s (t ++ lf) at n p h (t, refl, (line-none t x l).zero_lf)
 
 -- as many LFs as lines, and the last byte is one

@@ -1,4 +1,5 @@
 -- A file of readings, a step at a time, as the code reads it: a law for each way out of a function and for each turn of a loop. Assumes nothing.
+use Rattle.std.specs.Prelude.{Option, Some, None}
 use Prim.Native.Nat.{ℕ, zero, suc, ◌+◌, ◌-◌, ◌*◌, ◌<◌, ◌≤◌}
 use native.Mathlib.Numerals.{add-one, sub-one}
 use native.Mathlib.Omega.{arith}
@@ -12,15 +13,14 @@ use lib.Ieee.{Float, binary64, of_bits}
 use borrow.Author.Tests.{eq-eqb, ne_eqb, le-leb, lt-leb}
 use Rattle.sheets.specs.code.reader.Reader.{read_num}
 use Rattle.sheets.specs.code.reader.Views.{doubled}
-use Rattle.sheets.specs.declared.reader.num.DoubleRead.{DoubleRead}
 use Rattle.boresheet.specs.declared.readings.BadReadings.{BadReadings}
 use Rattle.boresheet.specs.Format.{hex_number}
 use Rattle.boresheet.specs.code.Readings.{hex_if, hex_from, hex_at, end_if, ended_at, or_else, reading_at, lastly, line_if, readings_from}
 
 -- ---- hexadecimal digits
 
-module _ (s : List ℕ) (b bits i : ℕ) (q : DoubleRead) (eb : b ≡ get_or s i 0) where
-  pub hex-stop : (left : ℕ) → 0 < left → hex_number b ≡ 16 → hex_from left bits s i ≡ q → DoubleRead.Not ≡ q
+module _ (s : List ℕ) (b bits i : ℕ) (q : Option (Float × ℕ)) (eb : b ≡ get_or s i 0) where
+  pub hex-stop : (left : ℕ) → 0 < left → hex_number b ≡ 16 → hex_from left bits s i ≡ q → None ≡ q
   unfolding hex_from hex_if
   hex-stop zero pos h inv = absurd (omega arith)
   hex-stop (suc k) pos h inv = rw (eq-eqb (hex_number (get_or s i 0)) 16 (sym (ap hex_number eb) ∙ h)) at inv
@@ -33,36 +33,36 @@ module _ (s : List ℕ) (b bits i : ℕ) (q : DoubleRead) (eb : b ≡ get_or s i
       let n = ne_eqb (hex_number (get_or s i 0)) 16 (λ z. omega (arith, number, z, h)) in
       rw (sub-one, number) (rw n at inv)
 
-pub hex-end : (s : List ℕ) (bits i left : ℕ) (q : DoubleRead) (x : Float) → left ≤ 0 → x ≡ of_bits binary64 bits → hex_from left bits s i ≡ q → DoubleRead.Is x i ≡ q
+pub hex-end : (s : List ℕ) (bits i left : ℕ) (q : Option (Float × ℕ)) (x : Float) → left ≤ 0 → x ≡ of_bits binary64 bits → hex_from left bits s i ≡ q → Some (x, i) ≡ q
 unfolding hex_from
-hex-end s bits i zero q x h e inv = ap (λ z. DoubleRead.Is z i) e ∙ inv
+hex-end s bits i zero q x h e inv = ap (λ z. Some (z, i)) e ∙ inv
 hex-end s bits i (suc k) q x h e inv = absurd (omega arith)
 
 -- ---- a line
 
-module _ (s : List ℕ) (d : DoubleRead) where
-  pub ended-none : d ≡ DoubleRead.Not → DoubleRead.Not ≡ ended_at s d
+module _ (s : List ℕ) (d : Option (Float × ℕ)) where
+  pub ended-none : d ≡ None → None ≡ ended_at s d
   unfolding ended_at
   ended-none h = rw h refl
 
-  module _ (x : Float) (n b : ℕ) (h : d ≡ DoubleRead.Is x n) (eb : b ≡ get_or s n 0) where
-    pub ended_is : b ≡ 10 → DoubleRead.Is x (n + 1) ≡ ended_at s d
+  module _ (x : Float) (n b : ℕ) (h : d ≡ Some (x, n)) (eb : b ≡ get_or s n 0) where
+    pub ended_is : b ≡ 10 → Some (x, n + 1) ≡ ended_at s d
     unfolding ended_at end_if
     ended_is e = rw (h, eq-eqb (get_or s n 0) 10 (sym eb ∙ e)) refl
 
-    pub ended-not : (b ≡ 10 → ⊥) → DoubleRead.Not ≡ ended_at s d
+    pub ended-not : (b ≡ 10 → ⊥) → None ≡ ended_at s d
     unfolding ended_at end_if
     ended-not e = rw (h, ne_eqb (get_or s n 0) 10 (λ z. e (eb ∙ z))) refl
 
-module _ (s : List ℕ) (at : ℕ) (d r : DoubleRead) (ed : d ≡ doubled (read_num s at)) (er : r ≡ ended_at s d) where
+module _ (s : List ℕ) (at : ℕ) (d r : Option (Float × ℕ)) (ed : d ≡ doubled (read_num s at)) (er : r ≡ ended_at s d) where
   numbered : r ≡ ended_at s (doubled (read_num s at))
   numbered = er ∙ ap (ended_at s) ed
 
-  pub reading-number : (x : Float) (n : ℕ) → r ≡ DoubleRead.Is x n → DoubleRead.Is x n ≡ reading_at s at
+  pub reading-number : (x : Float) (n : ℕ) → r ≡ Some (x, n) → Some (x, n) ≡ reading_at s at
   unfolding reading_at or_else
   reading-number x n h = rw (sym numbered ∙ h) refl
 
-  pub reading-hex : (g t : DoubleRead) → r ≡ DoubleRead.Not → g ≡ hex_at s at → t ≡ ended_at s g → t ≡ reading_at s at
+  pub reading-hex : (g t : Option (Float × ℕ)) → r ≡ None → g ≡ hex_at s at → t ≡ ended_at s g → t ≡ reading_at s at
   unfolding reading_at or_else
   reading-hex g t h eg et = rw (sym numbered ∙ h) (et ∙ ap (ended_at s) eg)
 
@@ -92,13 +92,13 @@ module _ (s : List ℕ) (at i : ℕ) (vs : List Float) (l : length vs ≡ 16) (l
   file-short h t =
       ap (λ n. Err (BadReadings.Short n)) (sym count) ∙ (rw (steps (16 - i) (take i vs) (omega arith), le-leb (length s) at t) at inv)
 
-  module _ (h : i < 16) (t : at < length s) (g : DoubleRead) (eg : g ≡ reading_at s at) where
-    pub file-bad : g ≡ DoubleRead.Not → Err (BadReadings.Line (i + 1)) ≡ q
+  module _ (h : i < 16) (t : at < length s) (g : Option (Float × ℕ)) (eg : g ≡ reading_at s at) where
+    pub file-bad : g ≡ None → Err (BadReadings.Line (i + 1)) ≡ q
     unfolding line_if
     file-bad e =
         ap (λ n. Err (BadReadings.Line (n + 1))) (sym count) ∙ (rw (steps (16 - i) (take i vs) (omega arith), lt-leb (length s) at t, sym eg ∙ e) at inv)
 
-    pub file-turn : (x : Float) (n : ℕ) → g ≡ DoubleRead.Is x n → readings_from (16 - (i + 1)) (take (i + 1) (set vs i x)) s n ≡ q
+    pub file-turn : (x : Float) (n : ℕ) → g ≡ Some (x, n) → readings_from (16 - (i + 1)) (take (i + 1) (set vs i x)) s n ≡ q
     unfolding line_if
     file-turn x n e =
         let z : 16 - (i + 1) ≡ 16 - i - 1 = omega arith in

@@ -5,7 +5,6 @@ ghost use Rattle.boresheet.specs.code.Readings.{hex_at};
 
 use numbers::float::double;
 use sheets::reader::bytes::byte;
-use sheets::reader::num::DoubleRead;
 
 // The number of a hexadecimal digit of either case.
 #[tactic(auto, unfolding(crate::specs::Format::hex_number))]
@@ -21,16 +20,14 @@ pub fn hex_digit(b: u8) -> Option<u64>
 }
 
 // The double of the sixteen digits at a place, and the place after them.
-pub fn hex(s: &[u8], at: usize) -> DoubleRead
+pub fn hex(s: &[u8], at: usize) -> Option<(f64, usize)>
     ensures { result ≡ hex_at s.now at }
 {
     let mut bits: u64 = 0;
     for i in 0..16 {
-        let Some(d) = hex_digit(byte(s, at + i)) else {
-            return DoubleRead::Not;
-        };
+        let d = hex_digit(byte(s, at + i))?;
         bits = bits * 16 + d;
     }
     let x = double(bits);
-    DoubleRead::Is(x, at + 16)
+    Some((x, at + 16))
 }

@@ -4,7 +4,7 @@ ghost use Rattle.boresheet.specs.code.Readings.{ended_at, reading_at, readings_o
 
 use crate::hex::hex;
 use sheets::reader::bytes::byte;
-use sheets::reader::num::{DoubleRead, double};
+use sheets::reader::num::double;
 
 // Why a file is no file of readings: its first line that is none, by its number; how many lines there are where they are too few; or that something stands behind line 16.
 #[derive(Clone, Copy, Debug, PartialEq, Eq)]
@@ -15,31 +15,24 @@ pub enum BadReadings {
 }
 
 // What was read, if LF follows it, and the place after the LF.
-pub fn ended(s: &[u8], d: DoubleRead) -> DoubleRead
+pub fn ended(s: &[u8], d: Option<(f64, usize)>) -> Option<(f64, usize)>
     ensures { result ≡ ended_at s.now d }
 {
-    let DoubleRead::Is(x, n) = d else {
-        return DoubleRead::Not;
-    };
+    let (x, n) = d?;
     let b = byte(s, n);
-    if b == 10 {
-        return DoubleRead::Is(x, n + 1);
+    if b == b'\n' {
+        return Some((x, n + 1));
     }
-    DoubleRead::Not
+    None
 }
 
 // The reading of the line at a place, and the place of the next line.
-pub fn reading(s: &[u8], at: usize) -> DoubleRead
+pub fn reading(s: &[u8], at: usize) -> Option<(f64, usize)>
     ensures { result ≡ reading_at s.now at }
 {
-    let d = double(s, at);
-    let r = ended(s, d);
-    match r {
-        DoubleRead::Is(x, n) => DoubleRead::Is(x, n),
-        DoubleRead::Not => {
-            let h = hex(s, at);
-            ended(s, h)
-        }
+    match ended(s, double(s, at)) {
+        Some(found) => Some(found),
+        None => ended(s, hex(s, at)),
     }
 }
 
@@ -53,8 +46,7 @@ pub fn readings_of(s: &[u8]) -> Result<[f64; 16], BadReadings>
         if s.len() <= at {
             return Err(BadReadings::Short(i));
         }
-        let r = reading(s, at);
-        let DoubleRead::Is(x, next) = r else {
+        let Some((x, next)) = reading(s, at) else {
             return Err(BadReadings::Line(i + 1));
         };
         values[i] = x;

@@ -9,13 +9,14 @@ use lib.ListN.{length, take, get_or}
 use lib.Seq.{length-take-le}
 use lib.Ieee.{Float, nan}
 use borrow.Author.Tests.{eq-eqb, ne_eqb}
-use Rattle.frames.specs.declared.Ellipsoid.{Ellipsoid}
 use Rattle.sheets.specs.declared.check.admit.Admission.{Admission}
-use Rattle.sheets.specs.declared.check.admit.Outcome.{Outcome}
+use Rattle.std.specs.Prelude.{Ok, Err}
+use Rattle.sheets.specs.declared.refusals.Refused.{Refused}
+use Rattle.sheets.specs.code.Refusals.{refusal_of, code_for}
 use Rattle.sheets.specs.Trees.{Sheet}
 use Rattle.sheets.specs.code.reader.Reader.{Form, formed, bad_line, read_lines, read_sheet}
-use Rattle.sheets.specs.Refusals.{size, lent, refusal_number}
-use Rattle.sheets.specs.code.check.Walking.{Admits}
+use Rattle.sheets.specs.Refusals.{name, kind, limit, centre, apart, Refusal, size, lent, form, ellipsoid, fault, stop, refusal_number}
+use Rattle.sheets.specs.code.check.Walking.{Outcome, Admits}
 use Rattle.sheets.specs.Machine.{start, surface, machine}
 use Rattle.sheets.specs.Check.{Walked, passes, refuses, walk}
 use Rattle.sheets.specs.declared.answers.CheckAnswer.{CheckAnswer}
@@ -37,6 +38,33 @@ use Rattle.sheets.specs.code.run.Running.{Runs}
 
 -- ---- the check
 
+-- the code's refusal is the one that it was made for
+code-is : (r : Refusal) → refusal_of (code_for r) ≡ r
+code-is size = refl
+code-is lent = refl
+code-is form = refl
+code-is ellipsoid = refl
+code-is (fault name) = refl
+code-is (fault kind) = refl
+code-is (stop limit) = refl
+code-is (stop centre) = refl
+code-is (stop apart) = refl
+
+-- what the check answers of the code's refusal
+abbrev pub told : Refused → CheckAnswer
+told q = record { number = refusal_number (refusal_of q.refusal); line = q.line }
+
+-- the number and the line of a refusal
+module _ (r : Refusal) (i : ℕ) (q : Refused) (a : Outcome) (ea : a ≡ Err (record { refusal = code_for r; line = i })) (eq : a ≡ Err q) where
+  same-refused : ◌≡◌ {A = Refused} (record { refusal = code_for r; line = i }) q
+  same-refused = cc
+
+  number-is : (k : ℕ) → k ≡ refusal_number (refusal_of q.refusal) → k ≡ refusal_number r
+  number-is k ek = ek ∙ ap (λ (x : Refused). refusal_number (refusal_of x.refusal)) (sym same-refused) ∙ ap refusal_number (code-is r)
+
+  line-is : q.line ≡ i
+  line-is = ap (λ (x : Refused). x.line) (sym same-refused)
+
 -- the verdict over what the reader reads
 abbrev judged : Bool → List ℕ → Verdict
 judged l s = verdict l s (read_sheet s)
@@ -44,10 +72,13 @@ judged l s = verdict l s (read_sheet s)
 checks-by : (s kinds : List ℕ) (v : Verdict) → judged (lent_kinds kinds) s ≡ v → (r : CheckAnswer) (kinds' : List ℕ) → r ≡ check_of v → kinds' ≡ kinds_of_verdict v kinds → CheckOwes s kinds r kinds'
 checks-by s kinds v e r kinds' er ek = record { form_is = read_sheet s; grammar = reader-reads s; answer = er ∙ ap check_of (sym e); left = ek ∙ ap (λ w. kinds_of_verdict w kinds) (sym e) }
 
-pub few-lines : (s : List ℕ) (v : Verdict) (a : Admission) → Admits s v a → (n : ℕ) (d : Ellipsoid) (at : ℕ) → a.outcome ≡ Outcome.Passes n d at → n ≤ 96
+pub few-lines : (s : List ℕ) (v : Verdict) (a : Outcome) → Admits s v a → (p : Admission) → a ≡ Ok p → p.lines ≤ 96
 unfolding Admits
-few-lines s (admitted c cs) a (m, eh, el, p) n d at e = let o = p.0 in let l = p.1 in let i : n ≡ length cs = cc in omega arith
-few-lines s (refused r i) a o n d at e = let z : ◌≡◌ {A = ℕ} 0 1 = cc in absurd (omega arith)
+few-lines s (admitted c cs) a (m, eh, el, h) p e =
+    let o = h.1 in
+    let i : ◌≡◌ {A = Admission} (record { lines = length cs; ellipsoid = surface c.head; start = m; codes = h.0 }) p = cc in
+    omega (arith, h.2, ap (λ (x : Admission). x.lines) i)
+few-lines s (refused r i) a o p e = let z : ◌≡◌ {A = ℕ} 0 1 = cc in absurd (omega arith)
 
 module _ (s : List ℕ) (b : Bool) (eb : b ≡ sized s) where
   too_large : not b ≡ true → (l : Bool) → judged l s ≡ refused size 0
@@ -59,36 +90,34 @@ module _ (s : List ℕ) (b : Bool) (eb : b ≡ sized s) where
   within-size h l = ap (λ t. of_size t l (read_sheet s)) (sym eb ∙ not-once b false h)
 
   module _ (kinds : List ℕ) where
-    pub check-size : not b ≡ true → CheckOwes s kinds (record { number = 1; line = 0 }) kinds
-    check-size h = checks-by s kinds (refused size 0) (too_large h (lent_kinds kinds)) _ _ refl refl
+    pub check-size : not b ≡ true → (r : CheckAnswer) → r ≡ record { number = 1; line = 0 } → CheckOwes s kinds r kinds
+    check-size h r er = checks-by s kinds (refused size 0) (too_large h (lent_kinds kinds)) _ _ er refl
 
-    pub check-lent : not b ≡ false → (length kinds ≡ 96 → ⊥) → CheckOwes s kinds (record { number = 2; line = 0 }) kinds
-    check-lent h n = checks-by s kinds (refused lent 0) (within-size h (lent_kinds kinds) ∙ ap (λ t. of_lent t (read_sheet s)) (ne_eqb (length kinds) 96 n)) _ _ refl refl
+    pub check-lent : not b ≡ false → (length kinds ≡ 96 → ⊥) → (r : CheckAnswer) → r ≡ record { number = 2; line = 0 } → CheckOwes s kinds r kinds
+    check-lent h n r er = checks-by s kinds (refused lent 0) (within-size h (lent_kinds kinds) ∙ ap (λ t. of_lent t (read_sheet s)) (ne_eqb (length kinds) 96 n)) _ _ er refl
 
-    module _ (h : not b ≡ false) (n : length kinds ≡ 96) (a : Admission) (ha : Admits s (of_form (read_sheet s)) a) where
+    module _ (h : not b ≡ false) (n : length kinds ≡ 96) (a : Outcome) (ha : Admits s (of_form (read_sheet s)) a) where
       formed-is : judged (lent_kinds kinds) s ≡ of_form (read_sheet s)
       formed-is = within-size h (lent_kinds kinds) ∙ ap (λ t. of_lent t (read_sheet s)) (eq-eqb (length kinds) 96 n)
 
-      pub check-refused : (k j : ℕ) → a.outcome ≡ Outcome.Refuses k j → CheckOwes s kinds (record { number = k; line = j }) kinds
+      pub check-refused : (q : Refused) → a ≡ Err q → (r : CheckAnswer) → r ≡ told q → CheckOwes s kinds r kinds
       unfolding Admits
-      check-refused k j e = go (of_form (read_sheet s)) formed-is ha
+      check-refused q e r er = go (of_form (read_sheet s)) formed-is ha
         where
-          go : (v : Verdict) → judged (lent_kinds kinds) s ≡ v → Admits s v a → CheckOwes s kinds (record { number = k; line = j }) kinds
-          go (admitted c cs) ev (m, eh, el, p) = let o = p.0 in let z : ◌≡◌ {A = ℕ} 0 1 = cc in absurd (omega arith)
-          go (refused r i) ev o =
-              let ik : k ≡ refusal_number r = cc in
-              let ij : j ≡ i = cc in
-              checks-by s kinds (refused r i) ev _ _ (ap (λ y. record { number = y; line = j }) ik ∙ ap (λ y. record { number = refusal_number r; line = y }) ij) refl
+          go : (v : Verdict) → judged (lent_kinds kinds) s ≡ v → Admits s v a → CheckOwes s kinds r kinds
+          go (admitted c cs) ev (m, eh, el, p) = let o = p.1 in let z : ◌≡◌ {A = ℕ} 0 1 = cc in absurd (omega arith)
+          go (refused f i) ev o =
+              checks-by s kinds (refused f i) ev _ _ (er ∙ ap (λ y. record { number = y; line = q.line }) (number-is f i q a o e _ refl) ∙ ap (λ y. record { number = refusal_number f; line = y }) (line-is f i q a o e)) refl
 
-      pub check-passes : (n : ℕ) (d : Ellipsoid) (at : ℕ) → a.outcome ≡ Outcome.Passes n d at → (kinds' : List ℕ) → kinds' ≡ laid (take n a.codes) kinds → CheckOwes s kinds (record { number = 0; line = 0 }) kinds'
+      pub check-passes : (p : Admission) → a ≡ Ok p → (kinds' : List ℕ) → kinds' ≡ laid (take p.lines p.codes) kinds → CheckOwes s kinds (record { number = 0; line = 0 }) kinds'
       unfolding Admits
-      check-passes n d at e kinds' ek = go (of_form (read_sheet s)) formed-is ha
+      check-passes p e kinds' ek = go (of_form (read_sheet s)) formed-is ha
         where
           go : (v : Verdict) → judged (lent_kinds kinds) s ≡ v → Admits s v a → CheckOwes s kinds (record { number = 0; line = 0 }) kinds'
-          go (admitted c cs) ev (m, eh, el, p) =
-              let o = p.0 in
-              let i : n ≡ length cs = cc in
-              checks-by s kinds (admitted c cs) ev _ _ refl (ek ∙ ap (λ y. laid (take y a.codes) kinds) i ∙ ap (λ y. laid y kinds) p.2)
+          go (admitted c cs) ev (m, eh, el, h) =
+              let o = h.1 in
+              let i : ◌≡◌ {A = Admission} (record { lines = length cs; ellipsoid = surface c.head; start = m; codes = h.0 }) p = cc in
+              checks-by s kinds (admitted c cs) ev _ _ refl (ek ∙ ap (λ (x : Admission). laid (take x.lines x.codes) kinds) (sym i) ∙ ap (λ y. laid y kinds) h.3)
           go (refused r i) ev o = let z : ◌≡◌ {A = ℕ} 0 1 = cc in absurd (omega arith)
 
   -- ---- the run
@@ -97,51 +126,48 @@ module _ (s : List ℕ) (b : Bool) (eb : b ≡ sized s) where
     ran-by : (v : Verdict) → judged (lent_run rs out) s ≡ v → (r : RunAnswer) (out' : List ℕ) → RunOf v rs out r out' → RunOwes s rs out r out'
     ran-by v e r out' h = record { form_is = read_sheet s; grammar = reader-reads s; answer = subst (λ w. RunOf w rs out r out') (sym e) h }
 
-    pub run-size : not b ≡ true → (r : RunAnswer) → r ≡ record { number = 1; line = 0; written = 0 } → RunOwes s rs out r out
-    run-size h r er = ran-by (refused size 0) (too_large h (lent_run rs out)) r out (er, refl)
+    pub run-size : not b ≡ true → (k : ℕ) → k ≡ 1 → (r : RunAnswer) → r ≡ record { number = k; line = 0; written = 0 } → RunOwes s rs out r out
+    run-size h k ek r er = ran-by (refused size 0) (too_large h (lent_run rs out)) r out (er ∙ ap (λ n. record { number = n; line = 0; written = 0 }) ek, refl)
 
-    unlent : not b ≡ false → lent_run rs out ≡ false → (r : RunAnswer) → r ≡ record { number = 2; line = 0; written = 0 } → RunOwes s rs out r out
-    unlent h e r er = ran-by (refused lent 0) (within-size h (lent_run rs out) ∙ ap (λ t. of_lent t (read_sheet s)) e) r out (er, refl)
+    unlent : not b ≡ false → lent_run rs out ≡ false → (k : ℕ) → k ≡ 2 → (r : RunAnswer) → r ≡ record { number = k; line = 0; written = 0 } → RunOwes s rs out r out
+    unlent h e k ek r er = ran-by (refused lent 0) (within-size h (lent_run rs out) ∙ ap (λ t. of_lent t (read_sheet s)) e) r out (er ∙ ap (λ n. record { number = n; line = 0; written = 0 }) ek, refl)
 
-    pub run-readings : not b ≡ false → (length rs ≡ 16 → ⊥) → (r : RunAnswer) → r ≡ record { number = 2; line = 0; written = 0 } → RunOwes s rs out r out
+    pub run-readings : not b ≡ false → (length rs ≡ 16 → ⊥) → (k : ℕ) → k ≡ 2 → (r : RunAnswer) → r ≡ record { number = k; line = 0; written = 0 } → RunOwes s rs out r out
     run-readings h n = unlent h (ap (λ t. t && eqb (length out) 24576) (ne_eqb (length rs) 16 n))
 
     module _ (h : not b ≡ false) (n : length rs ≡ 16) where
       lent_by : (t : Bool) → eqb (length out) 24576 ≡ t → lent_run rs out ≡ t
       lent_by t e = ap (λ u. u && eqb (length out) 24576) (eq-eqb (length rs) 16 n) ∙ e
 
-      pub run_out : (length out ≡ 24576 → ⊥) → (r : RunAnswer) → r ≡ record { number = 2; line = 0; written = 0 } → RunOwes s rs out r out
+      pub run_out : (length out ≡ 24576 → ⊥) → (k : ℕ) → k ≡ 2 → (r : RunAnswer) → r ≡ record { number = k; line = 0; written = 0 } → RunOwes s rs out r out
       run_out o = unlent h (lent_by false (ne_eqb (length out) 24576 o))
 
-      module _ (o : length out ≡ 24576) (a : Admission) (ha : Admits s (of_form (read_sheet s)) a) where
+      module _ (o : length out ≡ 24576) (a : Outcome) (ha : Admits s (of_form (read_sheet s)) a) where
         run-formed : judged (lent_run rs out) s ≡ of_form (read_sheet s)
         run-formed = within-size h (lent_run rs out) ∙ ap (λ t. of_lent t (read_sheet s)) (lent_by true (eq-eqb (length out) 24576 o))
 
-        pub run-refused : (k j : ℕ) → a.outcome ≡ Outcome.Refuses k j → (r : RunAnswer) → r ≡ record { number = k; line = j; written = 0 } → RunOwes s rs out r out
+        pub run-refused : (q : Refused) → a ≡ Err q → (k : ℕ) → k ≡ refusal_number (refusal_of q.refusal) → (r : RunAnswer) → r ≡ record { number = k; line = q.line; written = 0 } → RunOwes s rs out r out
         unfolding Admits
-        run-refused k j e r er = go (of_form (read_sheet s)) run-formed ha
+        run-refused q e k ek r er = go (of_form (read_sheet s)) run-formed ha
           where
             go : (v : Verdict) → judged (lent_run rs out) s ≡ v → Admits s v a → RunOwes s rs out r out
-            go (admitted c cs) ev (m, eh, el, p) = let o = p.0 in let z : ◌≡◌ {A = ℕ} 0 1 = cc in absurd (omega arith)
+            go (admitted c cs) ev (m, eh, el, p) = let o = p.1 in let z : ◌≡◌ {A = ℕ} 0 1 = cc in absurd (omega arith)
             go (refused f i) ev p =
-                let ik : k ≡ refusal_number f = cc in
-                let ij : j ≡ i = cc in
-                ran-by (refused f i) ev r out (er ∙ ap (λ y. record { number = y; line = j; written = 0 }) ik ∙ ap (λ y. record { number = refusal_number f; line = y; written = 0 }) ij, refl)
+                ran-by (refused f i) ev r out (er ∙ ap (λ y. record { number = y; line = q.line; written = 0 }) (number-is f i q a p e k ek) ∙ ap (λ y. record { number = refusal_number f; line = y; written = 0 }) (line-is f i q a p e), refl)
 
         -- a sheet that passes never sticks, and the run over its lines begins with its ellipsoid at line 2
-        pub run-lines : (n : ℕ) (d : Ellipsoid) (at : ℕ) → a.outcome ≡ Outcome.Passes n d at → (r : RunAnswer) (out' : List ℕ) → Runs s at d rs out r out' → RunOwes s rs out r out'
+        pub run-lines : (y : Admission) → a ≡ Ok y → (r : RunAnswer) (out' : List ℕ) → Runs s y.start y.ellipsoid rs out r out' → RunOwes s rs out r out'
         unfolding Admits machine
-        run-lines n d at e r out' hr = go (read_sheet s) refl ha
+        run-lines y e r out' hr = go (read_sheet s) refl ha
           where
-            starts : (c : Sheet) (cs : List ℕ) (m : ℕ) → read_lines 95 2 0 s m ≡ formed c.lines → a.outcome ≡ Outcome.Passes (length cs) (surface c.head) m → (ds : List ℕ) → walk c ≡ passes ds → Tells (machine c rs) out r out'
-            starts c cs m el p ds ew =
-                let i : surface c.head ≡ d = cc in
-                let j : m ≡ at = cc in
-                hr.is o c.lines (subst (λ y. read_lines 95 2 0 s y ≡ formed c.lines) j el) (start c.head rs) i refl refl (unstuck (machine c rs) (walk c) ds (agree c rs) ew)
+            starts : (c : Sheet) (cs : List ℕ) (m : ℕ) → read_lines 95 2 0 s m ≡ formed c.lines → (codes : List ℕ) → a ≡ Ok (record { lines = length cs; ellipsoid = surface c.head; start = m; codes = codes }) → (ds : List ℕ) → walk c ≡ passes ds → Tells (machine c rs) out r out'
+            starts c cs m el codes p ds ew =
+                let i : ◌≡◌ {A = Admission} (record { lines = length cs; ellipsoid = surface c.head; start = m; codes = codes }) y = cc in
+                hr.is o c.lines (subst (λ (x : Admission). read_lines 95 2 0 s x.start ≡ formed c.lines) i el) (start c.head rs) (ap (λ (x : Admission). x.ellipsoid) i) refl refl (unstuck (machine c rs) (walk c) ds (agree c rs) ew)
 
             walked : (c : Sheet) → read_sheet s ≡ formed c → ranged c.head ≡ true → (w : Walked) → walk c ≡ w → Admits s (of_walked c w) a → RunOwes s rs out r out'
             walked c es er (passes ds) ew (m, eh, el, p) =
-                ran-by (admitted c (255 ∷ ds)) (run-formed ∙ ap of_form es ∙ ap (λ b. of_range b c) er ∙ ap (of_walked c) ew) r out' (starts c (255 ∷ ds) m el p.0 ds ew)
+                ran-by (admitted c (255 ∷ ds)) (run-formed ∙ ap of_form es ∙ ap (λ b. of_range b c) er ∙ ap (of_walked c) ew) r out' (starts c (255 ∷ ds) m el p.0 p.1 ds ew)
             walked c es er (refuses q j) ew p = let z : ◌≡◌ {A = ℕ} 0 1 = cc in absurd (omega arith)
 
             range : (c : Sheet) → read_sheet s ≡ formed c → (b : Bool) → ranged c.head ≡ b → Admits s (of_range b c) a → RunOwes s rs out r out'

@@ -12,12 +12,11 @@ use Rattle.frames.specs.declared.LocalFrame.{LocalFrame}
 use Rattle.sheets.specs.Trees.{Line, Sheet, numbered}
 use Rattle.sheets.specs.Grammar.{Form, formed, bad_line, Reads, Written, FirstBad}
 use Rattle.sheets.specs.LineNumbers.{line_number}
-use Rattle.sheets.specs.Refusals.{Stop, limit, centre, apart, stop, fault, refusal_number, Checked, fine, bad}
+use Rattle.sheets.specs.Refusals.{Fault, name, kind, Stop, limit, centre, apart, stop, fault, refusal_number, Checked, fine, bad}
 use Rattle.sheets.specs.Check.{Stateᶜ, stepᶜ, Walked, passes, refuses, onwardᶜ, stepsᶜ, startᶜ, walk}
 use Rattle.sheets.specs.Machine.{State, Out, goes, stops, sticks, step, Ran, done, stopped, stuck, afterwards, onward, steps, start, machine}
 use Rattle.sheets.specs.Answers.{sized, ranged, Verdict, admitted, refused, of_walked, of_range, of_form, of_size, verdict, check_of, lent_kinds, CheckAnswer, CheckOwes, RunAnswer, Tells, RunOf, lent_run, RunOwes}
 use Rattle.sheets.proofs.Bools.{and_both}
-use Rattle.sheets.proofs.check.AdmitSteps.{fault-over}
 use Rattle.sheets.proofs.reader.LineNumbers.{HasLine, first_lines, line-number, bad-number}
 
 -- line j of the sheet that the bytes are: its number is one more than the LFs of the lines before it
@@ -72,6 +71,10 @@ stopped-in i (l ∷ ls) s = go (λ t. stopped-in (suc i) ls t) (step i s l)
     go rest (sticks fs) = tt
 
 -- ---- the answers
+
+fault-over : (f : Fault) → 3 < refusal_number (fault f)
+fault-over name = omega arith
+fault-over kind = omega arith
 
 stop-over : (k : Stop) → 3 < refusal_number (stop k)
 stop-over limit = omega arith

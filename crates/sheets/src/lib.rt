@@ -6,6 +6,7 @@ pub mod answers;
 pub mod check;
 pub mod check_and_run;
 pub mod reader;
+mod refusals;
 mod rows;
 pub mod run;
 

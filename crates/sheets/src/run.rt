@@ -16,8 +16,9 @@ pub(crate) mod whole;
 ghost use Rattle.sheets.specs.Answers.{RunOwes};
 
 use crate::answers::{RunAnswer, run_answer};
-use crate::check::admit::{Outcome, admit};
+use crate::check::admit::admit;
 use crate::check::is_sized;
+use crate::refusals::Refusal;
 use crate::run::lines_run::run_lines;
 
 // It writes exactly the text of the shows and totals, in the first bytes of the output, and answers how many bytes it has.
@@ -26,18 +27,17 @@ pub fn run(sheet: &[u8], readings: &[f64], out: &mut [u8]) -> RunAnswer
 {
     let sized = is_sized(sheet.len());
     if !sized {
-        return run_answer(1, 0, 0);
+        return run_answer(Refusal::Size.number(), 0, 0);
     }
     if readings.len() != 16 {
-        return run_answer(2, 0, 0);
+        return run_answer(Refusal::Lent.number(), 0, 0);
     }
     if out.len() != 24576 {
-        return run_answer(2, 0, 0);
+        return run_answer(Refusal::Lent.number(), 0, 0);
     }
     let a = admit(sheet);
-    let outcome = a.outcome;
-    match outcome {
-        Outcome::Refuses(number, line) => run_answer(number, line, 0),
-        Outcome::Passes(_, e, start) => run_lines(sheet, start, e, readings, out),
+    match a {
+        Err(r) => run_answer(r.refusal.number(), r.line, 0),
+        Ok(passing) => run_lines(sheet, passing.start, passing.ellipsoid, readings, out),
     }
 }

@@ -1,23 +1,21 @@
 // What is found in a sheet: whether it is of the grammar, and then each line's place and parts. An error is that of a write that failed.
 use crate::text::{double, word};
 use crate::tree::tree;
-use sheets::reader::expr::Read;
-use sheets::reader::form::{FormRead, form};
-use sheets::reader::head::{HeadRead, head};
+use sheets::reader::form::form;
+use sheets::reader::head::{HeadLine, head};
 use sheets::reader::lines::{LineHead, WholeLine, line_end, line_head};
 use std::io;
 use test_cases::print::{decimal, put};
 
 // `bad` and the first bad line, or `fine`, how many lines there are, and the lines.
 pub fn sheet(rt: &impl Print, s: &[u8]) -> io::Result<()> {
-    let f = form(s);
-    match f {
-        FormRead::Bad(number) => {
+    match form(s) {
+        Err(number) => {
             put(rt, b"bad ")?;
             decimal(rt, number)?;
             put(rt, b"\n")
         }
-        FormRead::Fine(count) => {
+        Ok(count) => {
             put(rt, b"fine ")?;
             decimal(rt, count)?;
             put(rt, b"\n")?;
@@ -38,17 +36,16 @@ fn lines(rt: &impl Print, s: &[u8], count: usize) -> io::Result<()> {
 // Line 1: the place of the next one.
 fn first_line(rt: &impl Print, s: &[u8]) -> io::Result<usize> {
     put(rt, b"0 ellipsoid ")?;
-    let h = head(s);
-    match h {
-        HeadRead::Bad => {
+    match head(s) {
+        None => {
             put(rt, b"?\n")?;
             Ok(0)
         }
-        HeadRead::Wgs(next) => {
+        Some((HeadLine::Wgs84, next)) => {
             put(rt, b"wgs84\n")?;
             Ok(next)
         }
-        HeadRead::Custom(radius, flattening, next) => {
+        Some((HeadLine::Custom(radius, flattening), next)) => {
             double(rt, radius)?;
             put(rt, b" ")?;
             double(rt, flattening)?;
@@ -76,21 +73,16 @@ fn whole(rt: &impl Print, line: WholeLine) -> io::Result<()> {
 // Another line: the place of the next one.
 fn other_line(rt: &impl Print, s: &[u8], at: usize) -> io::Result<usize> {
     decimal(rt, at)?;
-    let h = line_head(s, at);
-    match h {
-        LineHead::Bad => put(rt, b" ?")?,
-        LineHead::Let(name, value) => {
+    match line_head(s, at) {
+        None => put(rt, b" ?")?,
+        Some(LineHead::Let(name, value)) => {
             put(rt, b" let ")?;
             word(rt, name.code)?;
             put(rt, b" ")?;
             tree(rt, s, value, 11)?;
         }
-        LineHead::Whole(line, _) => whole(rt, line)?,
+        Some(LineHead::Whole(line, _)) => whole(rt, line)?,
     }
     put(rt, b"\n")?;
-    let r = line_end(s, at);
-    match r {
-        Read::At(next) => Ok(next),
-        Read::Bad => Ok(at),
-    }
+    Ok(line_end(s, at).unwrap_or(at))
 }

@@ -1,16 +1,14 @@
 // An expression, printed as it is nested: each word from its code, each number as its double's bits. An error is that of a write that failed.
 use crate::text::{double, word};
-use sheets::reader::bytes::{WordRead, byte};
-use sheets::reader::expr::{Read, expr};
+use sheets::reader::bytes::byte;
+use sheets::reader::expr::expr;
 use sheets::reader::lines::opening;
-use sheets::reader::num::DoubleRead;
 use std::io;
 use test_cases::print::put;
 
 // A word or a number.
 fn leaf(rt: &impl Print, s: &[u8], at: usize) -> io::Result<()> {
-    let w = sheets::reader::bytes::word(s, at);
-    if let WordRead::Is(code, _) = w {
+    if let Some((code, _)) = sheets::reader::bytes::word(s, at) {
         return word(rt, code);
     }
     number(rt, s, at)
@@ -18,27 +16,16 @@ fn leaf(rt: &impl Print, s: &[u8], at: usize) -> io::Result<()> {
 
 // A number.
 fn number(rt: &impl Print, s: &[u8], at: usize) -> io::Result<()> {
-    let q = sheets::reader::num::double(s, at);
-    match q {
-        DoubleRead::Is(x, _) => double(rt, x),
-        DoubleRead::Not => put(rt, b"?"),
-    }
-}
-
-// The place after the expression at a place.
-fn after(s: &[u8], at: usize, depth: usize) -> usize {
-    let r = expr(s, at, depth);
-    match r {
-        Read::At(n) => n,
-        Read::Bad => at,
+    match sheets::reader::num::double(s, at) {
+        Some((x, _)) => double(rt, x),
+        None => put(rt, b"?"),
     }
 }
 
 // The expression at a place, with at most `depth` brackets in each other.
 #[cycle(arguments_tree)]
 pub fn tree(rt: &impl Print, s: &[u8], at: usize, depth: usize) -> io::Result<()> {
-    let k = opening(s, at);
-    let WordRead::Is(code, n) = k else {
+    let Some((code, n)) = opening(s, at) else {
         return leaf(rt, s, at);
     };
     put(rt, b"(")?;
@@ -60,7 +47,7 @@ fn arguments(rt: &impl Print, s: &[u8], at: usize, depth: usize) -> io::Result<(
         }
         put(rt, b" ")?;
         tree(rt, s, i + 1, depth)?;
-        i = after(s, i + 1, depth);
+        i = expr(s, i + 1, depth).unwrap_or(i + 1);
     }
     Ok(())
 }

@@ -1,4 +1,5 @@
 -- Line 1, as the code answers it: a law for each way out of `by_numbers` and `first_line`. Assumes nothing.
+use Rattle.std.specs.Prelude.{Option, Some, None}
 use Prim.Native.Nat.{ℕ}
 use mathlib.Core.Path.{◌≡◌, refl, sym, ap, ap₂, ◌∙◌}
 use mathlib.Core.Bool.{Bool, true, false, ◌&&◌}
@@ -14,7 +15,7 @@ use Rattle.sheets.specs.Limits.{between}
 use Rattle.sheets.specs.Machine.{surface}
 use Rattle.sheets.specs.Answers.{ranged}
 use Rattle.sheets.specs.code.reader.Views.{head_of}
-use Rattle.sheets.specs.declared.reader.head.HeadRead.{HeadRead}
+use Rattle.sheets.specs.declared.reader.head.HeadLine.{HeadLine}
 use Rattle.sheets.proofs.reader.Told.{head-told}
 use Rattle.sheets.specs.code.check.FirstLines.{first_in, first_of}
 use Rattle.sheets.specs.declared.check.first_line.FirstLine.{FirstLine}
@@ -41,16 +42,16 @@ module _ (x y : Float) (n : ℕ) (t : Bool) (et : t ≡ (between (num 1000000) (
   out_of_range h = ap (λ z. first_in z (ellipsoid (metres x) y) n) (sym h ∙ et)
 
 -- ---- line 1
-module _ (s : List ℕ) (r : HeadRead) (t : r ≡ head_of (read_head s)) where
-  pub first-bad : r ≡ HeadRead.Bad → FirstLine.Bad ≡ first_of (read_head s)
+module _ (s : List ℕ) (r : Option (HeadLine × ℕ)) (t : r ≡ head_of (read_head s)) where
+  pub first-bad : r ≡ None → FirstLine.Bad ≡ first_of (read_head s)
   unfolding first_of
   first-bad h = ap first_of (sym (head-told (read_head s) r t _ h))
 
-  pub first-wgs : (n : ℕ) → r ≡ HeadRead.Wgs n → (o : Ellipsoid) → o ≡ surface_wgs84 → FirstLine.Is o n ≡ first_of (read_head s)
+  pub first-wgs : (n : ℕ) → r ≡ Some (HeadLine.Wgs84, n) → (o : Ellipsoid) → o ≡ surface_wgs84 → FirstLine.Is o n ≡ first_of (read_head s)
   unfolding first_of first_in ranged surface
   first-wgs n h o eo = ap (λ z. FirstLine.Is z n) eo ∙ ap first_of (sym (head-told (read_head s) r t _ h))
 
-  pub first-custom : (x y : Float) (n : ℕ) → r ≡ HeadRead.Custom x y n → (f : FirstLine)
+  pub first-custom : (x y : Float) (n : ℕ) → r ≡ Some (HeadLine.Custom x y, n) → (f : FirstLine)
       → f ≡ first_in (between (num 1000000) (num 10000000) x && between (num 100) (num 1000) y) (ellipsoid (metres x) y) n → f ≡ first_of (read_head s)
   unfolding first_of ranged surface
   first-custom x y n h f ef =

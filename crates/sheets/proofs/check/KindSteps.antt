@@ -3,7 +3,7 @@ use Prim.Native.Nat.{ℕ, zero, suc, ◌+◌, ◌-◌, ◌*◌, ◌^◌, ◌<◌
 use native.Mathlib.Omega.{arith}
 use mathlib.Core.Path.{◌≡◌, refl, sym, ap, ◌∙◌}
 use mathlib.Core.List.{List, ◌∷◌}
-use mathlib.Core.Option.{Option, none, some}
+use mathlib.Core.Option.{Option as Maybe, none, some}
 use lib.ListN.{get_or}
 use Rattle.sheets.specs.Text.{Word}
 use Rattle.sheets.specs.Trees.{Expr, Exprs, word_expr, num_expr, form_expr, nil, ◌▸◌}
@@ -16,12 +16,9 @@ use Rattle.sheets.specs.Table.{table}
 use Rattle.sheets.specs.Lookup.{find_kind}
 use Rattle.sheets.specs.Names.{Known, lookup}
 use Rattle.sheets.specs.code.rows.KindCodes.{key_from, kind_or_255, RowKind}
-use Rattle.sheets.specs.Refusals.{Fault, name, kind, fault, refusal_number, Checked, fine, bad, thenᶜ, known?}
+use Rattle.sheets.specs.Refusals.{Fault, kind, fault, Checked, fine, bad, thenᶜ, known?}
 use Rattle.sheets.specs.Check.{kind_of_expr, kinds_of_exprs}
-use Rattle.sheets.specs.declared.reader.bytes.WordRead.{WordRead}
 use Rattle.sheets.specs.declared.reader.num.Numeral.{Numeral}
-use Rattle.sheets.specs.declared.reader.num.NumRead.{NumRead}
-use Rattle.sheets.specs.declared.reader.expr.Read.{Read}
 use Rattle.sheets.proofs.reader.ReaderLaws.{then-got, close-read}
 use Rattle.sheets.proofs.reader.TokenSteps.{grow, cap}
 use Rattle.sheets.proofs.reader.ExprSteps.{not-close, args_none, args-other, args-step, expr-step, expr-bad, name-read, num-read}
@@ -32,50 +29,68 @@ use Rattle.sheets.proofs.reader.ExprLaws.{ExprAt, expr-sound}
 use Rattle.sheets.proofs.rows.KindRowLaws.{kind-small, row-kind}
 use Rattle.sheets.proofs.check.PassedLaws.{kind-newest}
 use Rattle.sheets.specs.declared.check.names.Names.{Names}
-use Rattle.sheets.specs.code.check.Walking.{kind_from, kind_found, Standing, kind_said, ExprHas, key_said, ArgsHave}
-use Rattle.sheets.specs.declared.check.kind_walk.KindRead.{KindRead}
-use Rattle.sheets.specs.declared.check.kind_walk.KeyRead.{KeyRead}
+use Rattle.sheets.specs.code.check.Walking.{code_if, kind_from, kind_found, Standing, kind_said, ExprHas, key_said, ArgsHave}
+use Rattle.std.specs.Prelude.{Option, Some, None, Result, Ok, Err}
+use Rattle.sheets.specs.declared.refusals.Refusal.{Refusal as Code}
+use Rattle.sheets.specs.code.Refusals.{code_for}
 
 -- ---- what 255 says
 
-pub none_found : (o : Option Kind) (f : ℕ) → f ≡ kind_or_255 o → f ≡ 255 → o ≡ none
+none_found : (o : Maybe Kind) (f : ℕ) → f ≡ kind_or_255 o → f ≡ 255 → o ≡ none
 none_found none f e h = refl
 none_found (some k) f e h = absurd (omega (arith, kind-small k))
 
-pub some-found : (o : Option Kind) (f : ℕ) → f ≡ kind_or_255 o → (f ≡ 255 → ⊥) → (k : Kind) × (o ≡ some k) × (f ≡ kind_code k)
+some-found : (o : Maybe Kind) (f : ℕ) → f ≡ kind_or_255 o → (f ≡ 255 → ⊥) → (k : Kind) × (o ≡ some k) × (f ≡ kind_code k)
 some-found none f e h = absurd (h e)
 some-found (some k) f e h = (k, refl, e)
 
+-- ---- what a kind's code says, where there is one
+
+pub none-if : (o : Maybe Kind) (f : Option ℕ) → f ≡ code_if o → f ≡ None → o ≡ none
+none-if none f e h = refl
+none-if (some k) f e h = let z : ◌≡◌ {A = ℕ} 0 1 = cc in absurd (omega arith)
+
+pub some-if : (o : Maybe Kind) (f : Option ℕ) → f ≡ code_if o → (k : ℕ) → f ≡ Some k → (j : Kind) × (o ≡ some j) × (k ≡ kind_code j)
+some-if none f e k h = let z : ◌≡◌ {A = ℕ} 0 1 = cc in absurd (omega arith)
+some-if (some j) f e k h = (j, refl, cc)
+
 -- the kind code found for a word, where the lines passed stand for the known words
-pub found-kind : (names : Names) (ps : Known Kind) → Standing names ps → (code f : ℕ) → f ≡ kind_found names code
-    → (w : Word) → IsWord w → code ≡ code_of w → f ≡ kind_or_255 (lookup w ps)
+pub found-kind : (names : Names) (ps : Known Kind) → Standing names ps → (code : ℕ) (f : Option ℕ) → f ≡ kind_found names code
+    → (w : Word) → IsWord w → code ≡ code_of w → f ≡ code_if (lookup w ps)
 found-kind names ps (passed, st) code f hf w hw e =
     hf ∙ kind-newest names passed st.from code ∙ ap (kind_from names passed) e ∙ st.is w hw
 
 -- a fault where there is no kind
-said-none : (x : Fault) (o : Option Kind) (f n : ℕ) → f ≡ kind_or_255 o → f ≡ 255 → KindRead.Refused (refusal_number (fault x)) ≡ kind_said (known? x o) n
+said-none : (x : Fault) (o : Maybe Kind) (f n : ℕ) → f ≡ kind_or_255 o → f ≡ 255 → Err (code_for (fault x)) ≡ kind_said (known? x o) n
 unfolding kind_said
 said-none x o f n e h = rw (none_found o f e h) refl
 
-said-some : (x : Fault) (o : Option Kind) (f n : ℕ) → f ≡ kind_or_255 o → (f ≡ 255 → ⊥) → KindRead.Is f n ≡ kind_said (known? x o) n
+said-some : (x : Fault) (o : Maybe Kind) (f n : ℕ) → f ≡ kind_or_255 o → (f ≡ 255 → ⊥) → Ok (f, n) ≡ kind_said (known? x o) n
 unfolding kind_said
-said-some x o f n e h = let (k, eo, ek) = some-found o f e h in rw eo (ap (λ i. KindRead.Is i n) ek)
+said-some x o f n e h = let (k, eo, ek) = some-found o f e h in rw eo (ap (λ i. Ok (i, n)) ek)
 
 -- ---- an expression
 
+-- a code, or a key, and the place behind it
+abbrev pub told : ℕ → ℕ → Result (ℕ × ℕ) Code
+told k n = Ok (k, n)
+
+pub same-told : {j k m n : ℕ} → told j m ≡ told k n → (j ≡ k) × (m ≡ n)
+same-told {j} {k} {m} {n} e = let i : ◌≡◌ {A = ℕ × ℕ} (j, m) (k, n) = cc in (ap (λ (p : ℕ × ℕ). p.0) i, ap (λ (p : ℕ × ℕ). p.1) i)
+
 -- a refusal is no kind
-not_is : {C : Type 0} (number k n : ℕ) → KindRead.Refused number ≡ KindRead.Is k n → C
-not_is number k n e = let z : ◌≡◌ {A = ℕ} 0 1 = cc in absurd (omega arith)
+not_is : {C : Type 0} (why : Code) (k n : ℕ) → Err why ≡ told k n → C
+not_is why k n e = let z : ◌≡◌ {A = ℕ} 0 1 = cc in absurd (omega arith)
 
-pub has-none : (s : List ℕ) (at depth : ℕ) (ps : Known Kind) (number : ℕ) → Read.Bad ≡ place (read_expr depth s at) → ExprHas s at depth ps (KindRead.Refused number)
-has-none s at depth ps number h = record { is = λ x n g. not-read (read_expr depth s at) x n h g; read = λ k n e. not_is number k n e }
+pub has-none : (s : List ℕ) (at depth : ℕ) (ps : Known Kind) (why : Code) → None ≡ place (read_expr depth s at) → ExprHas s at depth ps (Err why)
+has-none s at depth ps why h = record { is = λ x n g. not-read (read_expr depth s at) x n h g; read = λ k n e. not_is why k n e }
 
-said-end : (o : Checked Kind) (n k m : ℕ) → kind_said o n ≡ KindRead.Is k m → n ≡ m
+said-end : (o : Checked Kind) (n k m : ℕ) → kind_said o n ≡ told k m → n ≡ m
 unfolding kind_said
-said-end (fine j) n k m e = cc
-said-end (bad f) n k m e = not_is (refusal_number (fault f)) k m e
+said-end (fine j) n k m e = (same-told e).1
+said-end (bad f) n k m e = not_is (code_for (fault f)) k m e
 
-has-got : (s : List ℕ) (at depth : ℕ) (ps : Known Kind) (r : KindRead) (x : Expr) (n : ℕ) → read_expr depth s at ≡ got x n → r ≡ kind_said (kind_of_expr x ps) n → ExprHas s at depth ps r
+has-got : (s : List ℕ) (at depth : ℕ) (ps : Known Kind) (r : Result (ℕ × ℕ) Code) (x : Expr) (n : ℕ) → read_expr depth s at ≡ got x n → r ≡ kind_said (kind_of_expr x ps) n → ExprHas s at depth ps r
 has-got s at depth ps r x n h g = record { is = λ y m k. cc; read = λ k m e. (x, h ∙ ap (got x) (said-end (kind_of_expr x ps) n k m (sym g ∙ e))) }
 
 -- the words of an expression that was read are words
@@ -87,36 +102,37 @@ leaf-word s at depth w n e = go depth (holds_at (ExprAt s depth at) (read_expr d
     go (suc d) h = h
 
 module _ (s : List ℕ) (at b : ℕ) (eb : b ≡ get_or s at 0) (depth : ℕ) (ps : Known Kind) where
-  module _ (h : b ≡ 40 → ⊥) (r : WordRead) (er : r ≡ coded (read_word s at)) where
+  module _ (h : b ≡ 40 → ⊥) (r : Option (ℕ × ℕ)) (er : r ≡ coded (read_word s at)) where
     -- a word: f is the kind code found for it
-    module _ (code n : ℕ) (hr : r ≡ WordRead.Is code n) (names : Names) (st : Standing names ps) (f : ℕ) (hf : f ≡ kind_found names code) where
-      found-is : (w : Word) → read_expr depth s at ≡ got (word_expr w) n → code ≡ code_of w → f ≡ kind_or_255 (lookup w ps)
+    module _ (code n : ℕ) (hr : r ≡ Some (code, n)) (names : Names) (st : Standing names ps) (f : Option ℕ) (hf : f ≡ kind_found names code) where
+      found-is : (w : Word) → read_expr depth s at ≡ got (word_expr w) n → code ≡ code_of w → f ≡ code_if (lookup w ps)
       found-is w ew ec = found-kind names ps st code f hf w (leaf-word s at depth w n ew) ec
 
-      pub word-unknown : f ≡ 255 → ExprHas s at depth ps (KindRead.Refused 5)
-      unfolding kind_of_expr
+      pub word-unknown : f ≡ None → ExprHas s at depth ps (Err Code.Name)
+      unfolding kind_of_expr kind_said
       word-unknown e =
           let (w, ew, ec) = name-read s at b eb depth h r er code n hr in
-          has-got s at depth ps _ (word_expr w) n ew (said-none name (lookup w ps) f n (found-is w ew ec) e)
+          has-got s at depth ps _ (word_expr w) n ew (rw (none-if (lookup w ps) f (found-is w ew ec) e) refl)
 
-      pub word-known : (f ≡ 255 → ⊥) → ExprHas s at depth ps (KindRead.Is f n)
-      unfolding kind_of_expr
-      word-known e =
+      pub word-known : (k : ℕ) → f ≡ Some k → ExprHas s at depth ps (Ok (k, n))
+      unfolding kind_of_expr kind_said
+      word-known k e =
           let (w, ew, ec) = name-read s at b eb depth h r er code n hr in
-          has-got s at depth ps _ (word_expr w) n ew (said-some name (lookup w ps) f n (found-is w ew ec) e)
+          let (j, eo, ek) = some-if (lookup w ps) f (found-is w ew ec) k e in
+          has-got s at depth ps _ (word_expr w) n ew (rw eo (ap (λ i. Ok (i, n)) ek))
 
-    pub num-has : r ≡ WordRead.Not → (v : NumRead) → v ≡ counted (read_num s at) → (y : Numeral) → v ≡ NumRead.Is y → ExprHas s at depth ps (KindRead.Is 0 y.end)
+    pub num-has : r ≡ None → (v : Option Numeral) → v ≡ counted (read_num s at) → (y : Numeral) → v ≡ Some y → ExprHas s at depth ps (Ok (0, y.end))
     unfolding kind_of_expr kind_said
     num-has hr v ev y hv = let (q, eq, ey) = num-read s at b eb depth h r er hr v ev y hv in has-got s at depth ps _ (num_expr q) y.end eq refl
 
-    pub leaf-none : (number : ℕ) → r ≡ WordRead.Not → (v : NumRead) → v ≡ counted (read_num s at) → v ≡ NumRead.Not → ExprHas s at depth ps (KindRead.Refused number)
-    leaf-none number hr v ev hv = has-none s at depth ps number (expr-bad s at b eb depth h r er hr v ev hv)
+    pub leaf-none : (why : Code) → r ≡ None → (v : Option Numeral) → v ≡ counted (read_num s at) → v ≡ None → ExprHas s at depth ps (Err why)
+    leaf-none why hr v ev hv = has-none s at depth ps why (expr-bad s at b eb depth h r er hr v ev hv)
 
   -- a bracket: g is what its arguments came to
-  module _ (h : b ≡ 40) (d : depth ≡ 0 → ⊥) (r : WordRead) (er : r ≡ coded (read_word s (at + 1))) (code m : ℕ) (hr : r ≡ WordRead.Is code m) (g : KeyRead) (hg : ArgsHave s m (depth - 1) 5 0 ps g) where
-    form-has : (q : KindRead)
+  module _ (h : b ≡ 40) (d : depth ≡ 0 → ⊥) (r : Option (ℕ × ℕ)) (er : r ≡ coded (read_word s (at + 1))) (code m : ℕ) (hr : r ≡ Some (code, m)) (g : Result (ℕ × ℕ) Code) (hg : ArgsHave s m (depth - 1) 5 0 ps g) where
+    form-has : (q : Result (ℕ × ℕ) Code)
         → ((w : Word) → IsWord w → code ≡ code_of w → (o : Checked (List Kind)) (n : ℕ) → g ≡ key_said 0 o n → q ≡ kind_said (thenᶜ o (λ js. known? kind (find_kind table w js))) n)
-        → ((k n : ℕ) → q ≡ KindRead.Is k n → (x : Expr) × (read_expr depth s at ≡ got x n))
+        → ((k n : ℕ) → q ≡ Ok (k, n) → (x : Expr) × (read_expr depth s at ≡ got x n))
         → ExprHas s at depth ps q
     unfolding kind_of_expr
     form-has q f t = record {
@@ -126,39 +142,38 @@ module _ (s : List ℕ) (at b : ℕ) (eb : b ≡ get_or s at 0) (depth : ℕ) (p
       read = t;
     }
 
-    pub form-refused : (number : ℕ) → g ≡ KeyRead.Refused number → ExprHas s at depth ps (KindRead.Refused number)
+    pub form-refused : (why : Code) → g ≡ Err why → ExprHas s at depth ps (Err why)
     unfolding key_said kind_said
-    form-refused number eg = form-has _ go (λ k n e. not_is number k n e)
+    form-refused why eg = form-has _ go (λ k n e. not_is why k n e)
       where
-        go : (w : Word) → IsWord w → code ≡ code_of w → (o : Checked (List Kind)) (n : ℕ) → g ≡ key_said 0 o n → KindRead.Refused number ≡ kind_said (thenᶜ o (λ js. known? kind (find_kind table w js))) n
+        go : (w : Word) → IsWord w → code ≡ code_of w → (o : Checked (List Kind)) (n : ℕ) → g ≡ key_said 0 o n → Err why ≡ kind_said (thenᶜ o (λ js. known? kind (find_kind table w js))) n
         go w hw ec (fine ks) n p = let z : ◌≡◌ {A = ℕ} 0 1 = cc in absurd (omega arith)
-        go w hw ec (bad f) n p = let i : number ≡ refusal_number (fault f) = cc in ap (λ k. KindRead.Refused k) i
+        go w hw ec (bad f) n p = let i : why ≡ code_for (fault f) = cc in ap (λ k. Err k) i
 
     -- f is the kind code of the row
-    module _ (key end : ℕ) (eg : g ≡ KeyRead.Is key end) (f : ℕ) (hf : RowKind code key f) where
+    module _ (key end : ℕ) (eg : g ≡ Ok (key, end)) (f : ℕ) (hf : RowKind code key f) where
       row_is : (w : Word) → IsWord w → code ≡ code_of w → (ks : List Kind) (n : ℕ) → g ≡ key_said 0 (fine ks) n → (f ≡ kind_or_255 (find_kind table w ks)) × (end ≡ n)
       unfolding key_said
       row_is w hw ec ks n p =
-          let i : key_from 0 ks ≡ key = cc in
-          let j : end ≡ n = cc in
-          (row-kind code key f hf w hw ec ks i, j)
+          let same = same-told (sym p ∙ eg) in
+          (row-kind code key f hf w hw ec ks same.0, sym same.1)
 
       not-bad : {C : Type 0} (x : Fault) (n : ℕ) → g ≡ key_said 0 (bad x) n → C
       unfolding key_said
       not-bad x n p = let z : ◌≡◌ {A = ℕ} 0 1 = cc in absurd (omega arith)
 
-      pub form-no-row : f ≡ 255 → ExprHas s at depth ps (KindRead.Refused 6)
-      form-no-row e = form-has _ go (λ k n e. not_is 6 k n e)
+      pub form-no-row : f ≡ 255 → ExprHas s at depth ps (Err Code.Kind)
+      form-no-row e = form-has _ go (λ k n e. not_is Code.Kind k n e)
         where
-          go : (w : Word) → IsWord w → code ≡ code_of w → (o : Checked (List Kind)) (n : ℕ) → g ≡ key_said 0 o n → KindRead.Refused 6 ≡ kind_said (thenᶜ o (λ js. known? kind (find_kind table w js))) n
+          go : (w : Word) → IsWord w → code ≡ code_of w → (o : Checked (List Kind)) (n : ℕ) → g ≡ key_said 0 o n → Err Code.Kind ≡ kind_said (thenᶜ o (λ js. known? kind (find_kind table w js))) n
           go w hw ec (fine ks) n p = said-none kind (find_kind table w ks) f n (row_is w hw ec ks n p).0 e
           go w hw ec (bad x) n p = not-bad x n p
 
-      all_read : (k n : ℕ) → KindRead.Is f end ≡ KindRead.Is k n → (x : Expr) × (read_expr depth s at ≡ got x n)
+      all_read : (k n : ℕ) → told f end ≡ told k n → (x : Expr) × (read_expr depth s at ≡ got x n)
       all_read k n e =
           let (xs, ea) = hg.read key end eg in
           let (w, ew, ek) = coded-got (read_word s (at + 1)) r er code m hr in
-          let i : end ≡ n = cc in (
+          let i : end ≡ n = (same-told e).1 in (
             form_expr w xs,
             expr-step s at b eb depth h d
                 ∙ then-got (read_word s (at + 1)) (λ w n. read_args (read_expr (depth - 1) s) 5 s n then (λ xs m. got (form_expr w xs) m)) w m ew
@@ -166,23 +181,20 @@ module _ (s : List ℕ) (at b : ℕ) (eb : b ≡ get_or s at 0) (depth : ℕ) (p
                 ∙ ap (got (form_expr w xs)) i,
           )
 
-      pub form-row : (f ≡ 255 → ⊥) → ExprHas s at depth ps (KindRead.Is f end)
+      pub form-row : (f ≡ 255 → ⊥) → ExprHas s at depth ps (Ok (f, end))
       form-row e = form-has _ go all_read
         where
-          go : (w : Word) → IsWord w → code ≡ code_of w → (o : Checked (List Kind)) (n : ℕ) → g ≡ key_said 0 o n → KindRead.Is f end ≡ kind_said (thenᶜ o (λ js. known? kind (find_kind table w js))) n
-          go w hw ec (fine ks) n p = let (ef, en) = row_is w hw ec ks n p in ap (λ m. KindRead.Is f m) en ∙ said-some kind (find_kind table w ks) f n ef e
+          go : (w : Word) → IsWord w → code ≡ code_of w → (o : Checked (List Kind)) (n : ℕ) → g ≡ key_said 0 o n → Ok (f, end) ≡ kind_said (thenᶜ o (λ js. known? kind (find_kind table w js))) n
+          go w hw ec (fine ks) n p = let (ef, en) = row_is w hw ec ks n p in ap (λ m. Ok (f, m)) en ∙ said-some kind (find_kind table w ks) f n ef e
           go w hw ec (bad x) n p = not-bad x n p
 
 -- ---- the arguments
 
-not_key : {C : Type 0} (number k n : ℕ) → KeyRead.Refused number ≡ KeyRead.Is k n → C
-not_key number k n e = let z : ◌≡◌ {A = ℕ} 0 1 = cc in absurd (omega arith)
-
-have-none : (s : List ℕ) (at depth left key : ℕ) (ps : Known Kind) (number : ℕ) → Read.Bad ≡ place (read_args (read_expr depth s) left s at) → ArgsHave s at depth left key ps (KeyRead.Refused number)
-have-none s at depth left key ps number h = record { is = λ xs n g. not-read (read_args (read_expr depth s) left s at) xs n h g; read = λ k n e. not_key number k n e }
+have-none : (s : List ℕ) (at depth left key : ℕ) (ps : Known Kind) (why : Code) → None ≡ place (read_args (read_expr depth s) left s at) → ArgsHave s at depth left key ps (Err why)
+have-none s at depth left key ps why h = record { is = λ xs n g. not-read (read_args (read_expr depth s) left s at) xs n h g; read = λ k n e. not_is why k n e }
 
 module _ (s : List ℕ) (at b : ℕ) (eb : b ≡ get_or s at 0) (depth left key : ℕ) (ps : Known Kind) where
-  pub have-closed : b ≡ 41 → ArgsHave s at depth left key ps (KeyRead.Is key (at + 1))
+  pub have-closed : b ≡ 41 → ArgsHave s at depth left key ps (Ok (key, at + 1))
   unfolding kinds_of_exprs key_said key_from
   have-closed h = record {
     is = λ xs n e.
@@ -190,35 +202,35 @@ module _ (s : List ℕ) (at b : ℕ) (eb : b ≡ get_or s at 0) (depth left key 
         let i : xs ≡ nil = cc in
         let j : n ≡ at + 1 = cc in
         rw (i, j) refl;
-    read = λ k n e. let i : at + 1 ≡ n = cc in (nil, close-read (read_expr depth s) s at b eb left h ∙ ap (got nil) i);
+    read = λ k n e. let i : at + 1 ≡ n = (same-told e).1 in (nil, close-read (read_expr depth s) s at b eb left h ∙ ap (got nil) i);
   }
 
-  pub have-sixth : (number : ℕ) → b ≡ 32 → left ≡ 0 → ArgsHave s at depth left key ps (KeyRead.Refused number)
-  have-sixth number h l = have-none s at depth left key ps number (args_none (read_expr depth s) s at b eb left (not-close b h) l)
+  pub have-sixth : (why : Code) → b ≡ 32 → left ≡ 0 → ArgsHave s at depth left key ps (Err why)
+  have-sixth why h l = have-none s at depth left key ps why (args_none (read_expr depth s) s at b eb left (not-close b h) l)
 
-  pub have-other : (number : ℕ) → (b ≡ 32 → ⊥) → (b ≡ 41 → ⊥) → ArgsHave s at depth left key ps (KeyRead.Refused number)
-  have-other number h c = have-none s at depth left key ps number (args-other (read_expr depth s) s at b eb left c h)
+  pub have-other : (why : Code) → (b ≡ 32 → ⊥) → (b ≡ 41 → ⊥) → ArgsHave s at depth left key ps (Err why)
+  have-other why h c = have-none s at depth left key ps why (args-other (read_expr depth s) s at b eb left c h)
 
   -- r is what an argument came to
-  module _ (h : b ≡ 32) (l : left ≡ 0 → ⊥) (r : KindRead) (hr : ExprHas s (at + 1) depth ps r) where
+  module _ (h : b ≡ 32) (l : left ≡ 0 → ⊥) (r : Result (ℕ × ℕ) Code) (hr : ExprHas s (at + 1) depth ps r) where
     more-read : (xs : Exprs) (n : ℕ) → read_args (read_expr depth s) left s at ≡ got xs n
         → (x : Expr) × (m : ℕ) × (ys : Exprs) × (read_expr depth s (at + 1) ≡ got x m) × (read_args (read_expr depth s) (left - 1) s m ≡ got ys n) × (xs ≡ x ▸ ys)
     more-read xs n e = arg-read (read_expr depth s) s at b eb left l h xs n e
 
-    pub have-refused : (number : ℕ) → r ≡ KindRead.Refused number → ArgsHave s at depth left key ps (KeyRead.Refused number)
+    pub have-refused : (why : Code) → r ≡ Err why → ArgsHave s at depth left key ps (Err why)
     unfolding kinds_of_exprs key_said kind_said
-    have-refused number er = record {
+    have-refused why er = record {
       is = λ xs n e.
           let (x, m, ys, ex, ey, exs) = more-read xs n e in
           rw exs (go (kind_of_expr x ps) m (kinds_of_exprs ys ps) n (hr.is x m ex));
-      read = λ k n e. not_key number k n e;
+      read = λ k n e. not_is why k n e;
     }
       where
-        go : (o : Checked Kind) (m : ℕ) (p : Checked (List Kind)) (n : ℕ) → r ≡ kind_said o m → KeyRead.Refused number ≡ key_said key (thenᶜ o (λ j. thenᶜ p (λ js. fine (j ∷ js)))) n
+        go : (o : Checked Kind) (m : ℕ) (p : Checked (List Kind)) (n : ℕ) → r ≡ kind_said o m → Err why ≡ key_said key (thenᶜ o (λ j. thenᶜ p (λ js. fine (j ∷ js)))) n
         go (fine j) m p n e = let z : ◌≡◌ {A = ℕ} 0 1 = cc in absurd (omega arith)
-        go (bad f) m p n e = let i : number ≡ refusal_number (fault f) = cc in ap (λ k. KeyRead.Refused k) i
+        go (bad f) m p n e = let i : why ≡ code_for (fault f) = cc in ap (λ k. Err k) i
 
-    pub have-more : (k end : ℕ) → r ≡ KindRead.Is k end → (q : KeyRead) → ArgsHave s end depth (left - 1) (key * 16 + k + 1) ps q → ArgsHave s at depth left key ps q
+    pub have-more : (k end : ℕ) → r ≡ Ok (k, end) → (q : Result (ℕ × ℕ) Code) → ArgsHave s end depth (left - 1) (key * 16 + k + 1) ps q → ArgsHave s at depth left key ps q
     unfolding kinds_of_exprs key_said kind_said key_from
     have-more k end er q hq = record {
       is = λ xs n e.
@@ -235,15 +247,14 @@ module _ (s : List ℕ) (at b : ℕ) (eb : b ≡ get_or s at 0) (depth left key 
     }
       where
         push : (j : Kind) → kind_code j ≡ k → (o : Checked (List Kind)) (n : ℕ) → key_said (key * 16 + k + 1) o n ≡ key_said key (thenᶜ o (λ js. fine (j ∷ js))) n
-        push j e (fine js) n = ap (λ i. KeyRead.Is (key_from i js) n) (omega arith)
+        push j e (fine js) n = ap (λ i. Ok (key_from i js, n)) (omega arith)
         push j e (bad f) n = refl
 
         go : (o : Checked Kind) (m : ℕ) (ys : Exprs) (n : ℕ) → read_args (read_expr depth s) (left - 1) s m ≡ got ys n → r ≡ kind_said o m
             → q ≡ key_said key (thenᶜ o (λ j. thenᶜ (kinds_of_exprs ys ps) (λ js. fine (j ∷ js)))) n
         go (fine j) m ys n ey e =
-            let i : kind_code j ≡ k = cc in
-            let em : end ≡ m = cc in
-            hq.is ys n (ap (read_args (read_expr depth s) (left - 1) s) em ∙ ey) ∙ push j i (kinds_of_exprs ys ps) n
+            let same = same-told (sym er ∙ e) in
+            hq.is ys n (ap (read_args (read_expr depth s) (left - 1) s) same.1 ∙ ey) ∙ push j (sym same.0) (kinds_of_exprs ys ps) n
         go (bad f) m ys n ey e = let z : ◌≡◌ {A = ℕ} 0 1 = cc in absurd (omega arith)
 
 -- the key of at most five kinds stays small

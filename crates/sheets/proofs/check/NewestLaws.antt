@@ -6,12 +6,13 @@ use native.Mathlib.Numerals.{sub-one}
 use mathlib.Core.Path.{◌≡◌, refl, sym, ap, subst, ◌∙◌}
 use mathlib.Core.Bool.{Bool, true, false}
 use mathlib.Core.List.{List}
-use lib.Dec.{eqb, ltb}
+use Rattle.std.specs.Prelude.{Option, Some, None, unwrap_or}
+use lib.Dec.{eqb, leb, ltb}
 use lib.ListN.{get_or, get_or-replicate, length-replicate, length-set}
 use lib.Seq.{get_or-set_same, get_or-set_other}
-use borrow.Author.Tests.{eq-eqb, ne_eqb, eqb-true, eqb-false, ltb-true, ltb-false, le-leb, lt-leb}
+use borrow.Author.Tests.{eq-eqb, ne_eqb, eqb-true, eqb-false, leb-true, ltb-true, ltb-false, le-leb, lt-leb}
 use Rattle.sheets.specs.Table.{when}
-use Rattle.sheets.specs.code.check.Newest.{no_names, with_name, newest_of, search_from, Newest, place_from, Placed}
+use Rattle.sheets.specs.code.check.Newest.{no_names, with_name, newest_of, search_from, Newest, place_from, as_place, place_found, Placed}
 use Rattle.sheets.specs.declared.check.names.Names.{Names}
 
 small : (c : ℕ) → c % 512 < 512
@@ -86,16 +87,60 @@ module _ (names : Names) (n : ℕ) (h : Newest names n) where
   unfolding place_from
   place_is c j p = p.is ∙ ap (λ k. place_from names.words k c) (search_is c) ∙ from-newest c (λ k. place_from names.words k c) (λ k q. rw (ne_eqb (get_or names.words (suc k) 0) c q) refl)
 
--- ---- the search, a place at a time
+-- ---- the place found
 
-module _ (names : Names) (c i : ℕ) (e : i ≡ newest_of names c) where
-  pub search-none : 95 < i → 0 ≡ place_from names.words (search_from names c) c
-  unfolding search_from place_from
-  search-none h = rw (← e, lt-leb i 95 h) refl
+-- a word's place is one of the first n
+pub at_most : (words : List ℕ) (c n : ℕ) → place_from words n c ≤ n
+unfolding place_from
+at_most words c zero = omega arith
+at_most words c (suc n) = go (eqb (get_or words (suc n) 0) c) (at_most words c n)
+  where
+    go : (b : Bool) → place_from words n c ≤ n → when b (suc n) (place_from words n c) ≤ suc n
+    go true m = omega arith
+    go false m = omega arith
 
-  pub search-some : i ≤ 95 → place_from names.words i c ≡ place_from names.words (search_from names c) c
+module _ (names : Names) (c : ℕ) where
+  begins : search_from names c ≤ 95
   unfolding search_from
-  search-some h = rw (← e, le-leb i 95 h) refl
+  begins = go (leb (newest_of names c) 95) refl
+    where
+      go : (b : Bool) → leb (newest_of names c) 95 ≡ b → when b (newest_of names c) 0 ≤ 95
+      go true e = leb-true (newest_of names c) 95 e
+      go false e = omega arith
+
+  placed_lem : Placed names c (place_from names.words (search_from names c) c)
+  placed_lem = record { most = omega (arith, begins, at_most names.words c (search_from names c)); is = refl }
+
+  module _ (r : Option ℕ) (er : r ≡ place_found names c) where
+    placed_as : (k : ℕ) → place_from names.words (search_from names c) c ≡ k → r ≡ as_place k
+    unfolding place_found
+    placed_as k e = er ∙ ap as_place e
+
+    pub placed-none : r ≡ None → Placed names c 0
+    placed-none h = go (place_from names.words (search_from names c) c) refl
+      where
+        go : (k : ℕ) → place_from names.words (search_from names c) c ≡ k → Placed names c 0
+        go zero e = subst (Placed names c) e placed_lem
+        go (suc k) e = let i = placed_as (suc k) e in let z : ◌≡◌ {A = ℕ} 0 1 = cc in absurd (omega arith)
+
+    pub placed-some : (j : ℕ) → r ≡ Some j → Placed names c j × (j ≡ 0 → ⊥)
+    placed-some j h = go (place_from names.words (search_from names c) c) refl
+      where
+        go : (k : ℕ) → place_from names.words (search_from names c) c ≡ k → Placed names c j × (j ≡ 0 → ⊥)
+        go zero e = let i = placed_as 0 e in let z : ◌≡◌ {A = ℕ} 0 1 = cc in absurd (omega arith)
+        go (suc k) e =
+            let i = placed_as (suc k) e in
+            let q : suc k ≡ j = cc in
+            (subst (Placed names c) (e ∙ q) placed_lem, λ z. omega (arith, q))
+
+    pub placed-or : (j : ℕ) → j ≡ unwrap_or r 0 → Placed names c j
+    placed-or j ej = subst (Placed names c) (sym ej) (go r refl)
+      where
+        go : (o : Option ℕ) → r ≡ o → Placed names c (unwrap_or o 0)
+        go None e = placed-none e
+        go (Some j) e = (placed-some j e).0
+
+-- ---- the search, a place at a time
 
 module _ (words : List ℕ) (c : ℕ) where
   pub place_here : (i : ℕ) → 0 < i → get_or words i 0 ≡ c → i ≡ place_from words i c
@@ -124,3 +169,25 @@ module _ (words : List ℕ) (c : ℕ) where
           → when b (there (suc n)) (f n) ≡ when (eqb (when b (suc n) (place_from words n c)) 0) (f 0) (there (when b (suc n) (place_from words n c)))
       go true e = rw (ne_eqb (suc n) 0 (λ q. omega arith)) refl
       go false e = e
+
+module _ (names : Names) (c i : ℕ) (e : i ≡ newest_of names c) where
+  pub search-none : 95 < i → None ≡ place_found names c
+  unfolding search_from place_from place_found
+  search-none h = rw (← e, lt-leb i 95 h) refl
+
+  pub search-some : i ≤ 95 → place_from names.words i c ≡ place_from names.words (search_from names c) c
+  unfolding search_from
+  search-some h = rw (← e, le-leb i 95 h) refl
+
+module _ (names : Names) (c i : ℕ) (e : place_from names.words i c ≡ place_from names.words (search_from names c) c) where
+  pub found-here : 0 < i → get_or names.words i 0 ≡ c → Some i ≡ place_found names c
+  unfolding place_found
+  found-here pos h = go i refl pos ∙ ap as_place (place_here names.words c i pos h ∙ e)
+    where
+      go : (k : ℕ) → i ≡ k → 0 < k → Some i ≡ as_place i
+      go zero ek l = absurd (omega arith)
+      go (suc k) ek l = rw ek refl
+
+  pub found-nowhere : i ≤ 0 → None ≡ place_found names c
+  unfolding place_found
+  found-nowhere h = ap as_place (place-last names.words c i h ∙ e)

@@ -4,7 +4,8 @@ use native.Mathlib.Omega.{arith}
 use mathlib.Core.Path.{◌≡◌, refl, sym, ap, ◌∙◌, subst}
 use mathlib.Core.Bool.{Bool, true, false, ◌||◌, ◌&&◌}
 use mathlib.Core.List.{List, [], ◌∷◌, map}
-use mathlib.Core.Option.{Option, some}
+use mathlib.Core.Option.{Option as Maybe, some}
+use Rattle.std.specs.Prelude.{Some, None}
 use lib.Dec.{T, eqb, leb}
 use lib.ListN.{get_or}
 use lib.Seq.{get_or-set_same, get_or-set_other}
@@ -18,7 +19,6 @@ use Rattle.sheets.specs.Kinds.{Kind, number, kind_code}
 use Rattle.sheets.specs.Table.{when}
 use Rattle.sheets.specs.Lookup.{same_word}
 use Rattle.sheets.specs.Names.{Known, or_else, lookup, reading_words, given_on}
-use Rattle.sheets.specs.code.rows.KindCodes.{kind_or_255}
 use Rattle.sheets.specs.Check.{reading_kinds}
 use Rattle.sheets.proofs.reader.CodeLaws.{code-none}
 use Rattle.sheets.proofs.check.ReadingLaws.{codes_of, AreWords, reading_codes, readings-are}
@@ -27,16 +27,16 @@ use Rattle.sheets.proofs.rows.KindRowLaws.{words-agree, every, of-every}
 use Rattle.sheets.specs.code.check.Newest.{with_name, Newest, place_from}
 use Rattle.sheets.specs.declared.check.names.Names.{Names}
 use Rattle.sheets.proofs.check.NewestLaws.{newest-more, search_is, from-newest, by_place}
-use Rattle.sheets.specs.code.check.Walking.{reading_kind, kind_from, kind_found, Stands}
+use Rattle.sheets.specs.code.check.Walking.{code_if, reading_kind, kind_from, kind_found, Stands}
 
 -- ---- the readings
 
-by_codes : (vs : List Word) → AreWords vs → (w : Word) → IsWord w → when (has_key (codes_of vs) (code_of w)) 0 255 ≡ kind_or_255 (lookup w (map (λ v. given_on 0 v number) vs))
+by_codes : (vs : List Word) → AreWords vs → (w : Word) → IsWord w → when (has_key (codes_of vs) (code_of w)) (Some 0) None ≡ code_if (lookup w (map (λ v. given_on 0 v number) vs))
 by_codes [] h w hw = refl
 by_codes (v ∷ vs) h w hw = rw (words-agree v w h.0 hw) (go (same_word w v) (by_codes vs h.1 w hw))
   where
-    go : (b : Bool) → when (has_key (codes_of vs) (code_of w)) 0 255 ≡ kind_or_255 (lookup w (map (λ v. given_on 0 v number) vs))
-        → when (b || has_key (codes_of vs) (code_of w)) 0 255 ≡ kind_or_255 (or_else b number (lookup w (map (λ v. given_on 0 v number) vs)))
+    go : (b : Bool) → when (has_key (codes_of vs) (code_of w)) (Some 0) None ≡ code_if (lookup w (map (λ v. given_on 0 v number) vs))
+        → when (b || has_key (codes_of vs) (code_of w)) (Some 0) None ≡ code_if (or_else b number (lookup w (map (λ v. given_on 0 v number) vs)))
     go true e = refl
     go false e = e
 
@@ -101,46 +101,46 @@ ranges-are c = go (leb r0 c && leb c r9) refl (leb r10 c && leb c r15) refl
     go false e true f = sym (run reading_codes r10 r15 6 refl tt c (subst T (sym f) tt))
     go false e false f = sym (in-ranges reading_codes tt c (rw (e, f) refl))
 
-pub reading-is : (w : Word) → IsWord w → reading_kind (code_of w) ≡ kind_or_255 (lookup w reading_kinds)
+pub reading-is : (w : Word) → IsWord w → reading_kind (code_of w) ≡ code_if (lookup w reading_kinds)
 unfolding reading_kind
 reading-is w hw = by_codes reading_words readings-are w hw
 
 module _ (c : ℕ) where
-  by-range : (b : Bool) → in_ranges c ≡ b → when b 0 255 ≡ reading_kind c
+  by-range : (b : Bool) → in_ranges c ≡ b → when b (Some 0) None ≡ reading_kind c
   unfolding reading_kind
-  by-range b e = ap (λ x. when x 0 255) (sym e ∙ ranges-are c)
+  by-range b e = ap (λ x. when x (Some 0) None) (sym e ∙ ranges-are c)
 
-  pub reading-before : c < r0 → 255 ≡ reading_kind c
+  pub reading-before : c < r0 → None ≡ reading_kind c
   unfolding word_char code_from
   reading-before h = by-range false (rw (lt-leb r0 c h, lt-leb r10 c (omega arith)) refl)
 
-  pub reading-low : r0 ≤ c → c ≤ r9 → 0 ≡ reading_kind c
+  pub reading-low : r0 ≤ c → c ≤ r9 → Some 0 ≡ reading_kind c
   unfolding word_char code_from
   reading-low l h = by-range true (rw (le-leb r0 c l, le-leb c r9 h) refl)
 
-  pub reading-between : r9 < c → c < r10 → 255 ≡ reading_kind c
+  pub reading-between : r9 < c → c < r10 → None ≡ reading_kind c
   unfolding word_char code_from
   reading-between l h = by-range false (rw (le-leb r0 c (omega arith), lt-leb c r9 l, lt-leb r10 c h) refl)
 
-  pub reading-high : r10 ≤ c → c ≤ r15 → 0 ≡ reading_kind c
+  pub reading-high : r10 ≤ c → c ≤ r15 → Some 0 ≡ reading_kind c
   unfolding word_char code_from
   reading-high l h = by-range true (rw (le-leb r0 c (omega arith), lt-leb c r9 (omega arith), le-leb r10 c l, le-leb c r15 h) refl)
 
-  pub reading-behind : r15 < c → 255 ≡ reading_kind c
+  pub reading-behind : r15 < c → None ≡ reading_kind c
   unfolding word_char code_from
   reading-behind h = by-range false (rw (le-leb r0 c (omega arith), lt-leb c r9 (omega arith), le-leb r10 c (omega arith), lt-leb c r15 h) refl)
 
 -- ---- a word's kind by its place: that of its line, or a reading's
 
 module _ (names : Names) (n : ℕ) (c j : ℕ) (e : j ≡ place_from names.words n c) where
-  at_place : kind_from names n c ≡ when (eqb j 0) (reading_kind c) (get_or names.kinds j 0)
+  at_place : kind_from names n c ≡ when (eqb j 0) (reading_kind c) (Some (get_or names.kinds j 0))
   unfolding kind_from
-  at_place = by_place names.words c (λ k. get_or names.kinds k 0) (λ k. kind_from names k c) n (λ k l. refl) ∙ ap (λ k. when (eqb k 0) (reading_kind c) (get_or names.kinds k 0)) (sym e)
+  at_place = by_place names.words c (λ k. Some (get_or names.kinds k 0)) (λ k. kind_from names k c) n (λ k l. refl) ∙ ap (λ k. when (eqb k 0) (reading_kind c) (Some (get_or names.kinds k 0))) (sym e)
 
   pub kind-reading : j ≡ 0 → reading_kind c ≡ kind_from names n c
   kind-reading h = sym (at_place ∙ rw (eq-eqb j 0 h) refl)
 
-  pub kind-there : (j ≡ 0 → ⊥) → get_or names.kinds j 0 ≡ kind_from names n c
+  pub kind-there : (j ≡ 0 → ⊥) → Some (get_or names.kinds j 0) ≡ kind_from names n c
   kind-there h = sym (at_place ∙ rw (ne_eqb j 0 h) refl)
 
 -- the search may begin at the newest place for the word's remainder
@@ -161,30 +161,30 @@ kept names i a b (suc n) h c =
 
 module _ (names : Names) (passed : ℕ) (ps : Known Kind) (st : Stands names passed ps) (room : passed < 95) where
   -- the line's word has the code a, and its kind the code b
-  one_more : (a b : ℕ) (v : Word) → IsWord v → kind_from (with_name names a b (passed + 1)) (passed + 1) (code_of v) ≡ when (eqb a (code_of v)) b (kind_or_255 (lookup v ps))
+  one_more : (a b : ℕ) (v : Word) → IsWord v → kind_from (with_name names a b (passed + 1)) (passed + 1) (code_of v) ≡ when (eqb a (code_of v)) (Some b) (code_if (lookup v ps))
   unfolding kind_from
   one_more a b v hv = go (passed + 1) (omega arith) (omega arith)
     where
-      go : (i : ℕ) → i ≡ suc passed → i < 96 → kind_from (with_name names a b i) i (code_of v) ≡ when (eqb a (code_of v)) b (kind_or_255 (lookup v ps))
+      go : (i : ℕ) → i ≡ suc passed → i < 96 → kind_from (with_name names a b i) i (code_of v) ≡ when (eqb a (code_of v)) (Some b) (code_if (lookup v ps))
       go zero e h = absurd (omega arith)
       go (suc n) e h =
           let en : n ≡ passed = omega arith in
           rw (get_or-set_same names.words (suc n) a 0 (omega (arith, st.from.sizes.0)), get_or-set_same names.kinds (suc n) b 0 (omega (arith, st.from.sizes.1)))
-          (ap (when (eqb a (code_of v)) b) (kept names (suc n) a b n (omega arith) (code_of v) ∙ ap (λ m. kind_from names m (code_of v)) en ∙ st.is v hv))
+          (ap (when (eqb a (code_of v)) (Some b)) (kept names (suc n) a b n (omega arith) (code_of v) ∙ ap (λ m. kind_from names m (code_of v)) en ∙ st.is v hv))
 
   module _ (w : Word) (hw : IsWord w) (k : Kind) where
     -- the word of a line that is w, of the kind k
     abbrev After : Known Kind → Type 0
     After qs = Stands (with_name names (code_of w) (kind_code k) (passed + 1)) (passed + 1) qs
 
-    named-so : (v : Word) → IsWord v → kind_from (with_name names (code_of w) (kind_code k) (passed + 1)) (passed + 1) (code_of v) ≡ when (same_word v w) (kind_code k) (kind_or_255 (lookup v ps))
-    named-so v hv = one_more (code_of w) (kind_code k) v hv ∙ ap (λ b. when b (kind_code k) (kind_or_255 (lookup v ps))) (words-agree w v hw hv)
+    named-so : (v : Word) → IsWord v → kind_from (with_name names (code_of w) (kind_code k) (passed + 1)) (passed + 1) (code_of v) ≡ when (same_word v w) (Some (kind_code k)) (code_if (lookup v ps))
+    named-so v hv = one_more (code_of w) (kind_code k) v hv ∙ ap (λ b. when b (Some (kind_code k)) (code_if (lookup v ps))) (words-agree w v hw hv)
 
     -- a let gives the word
     pub stands-given : (i : ℕ) → After (given_on i w k ∷ ps)
     stands-given i = record { from = newest-more names passed st.from room _ _; is = λ v hv. named-so v hv ∙ go (same_word v w) (lookup v ps) }
       where
-        go : (b : Bool) (o : Option Kind) → when b (kind_code k) (kind_or_255 o) ≡ kind_or_255 (or_else b k o)
+        go : (b : Bool) (o : Maybe Kind) → when b (Some (kind_code k)) (code_if o) ≡ code_if (or_else b k o)
         go true o = refl
         go false o = refl
 
@@ -192,13 +192,13 @@ module _ (names : Names) (passed : ℕ) (ps : Known Kind) (st : Stands names pas
     pub stands-shown : lookup w ps ≡ some k → After ps
     stands-shown e = record { from = newest-more names passed st.from room _ _; is = λ v hv. named-so v hv ∙ go v (same_word v w) refl }
       where
-        go : (v : Word) (b : Bool) → same_word v w ≡ b → when b (kind_code k) (kind_or_255 (lookup v ps)) ≡ kind_or_255 (lookup v ps)
-        go v true h = ap kind_or_255 (sym e ∙ ap (λ u. lookup u ps) (sym (same_word_lem v w (subst T (sym h) tt))))
+        go : (v : Word) (b : Bool) → same_word v w ≡ b → when b (Some (kind_code k)) (code_if (lookup v ps)) ≡ code_if (lookup v ps)
+        go v true h = ap code_if (sym e ∙ ap (λ u. lookup u ps) (sym (same_word_lem v w (subst T (sym h) tt))))
         go v false h = refl
 
   -- a line that stands for no word
   pub stands-blank : (k : ℕ) → Stands (with_name names (code_of []) k (passed + 1)) (passed + 1) ps
   stands-blank k = record {
     from = newest-more names passed st.from room _ _;
-    is = λ v hv. one_more (code_of []) k v hv ∙ ap (λ b. when b k (kind_or_255 (lookup v ps))) (ne_eqb (code_of []) (code_of v) (code-none v hv));
+    is = λ v hv. one_more (code_of []) k v hv ∙ ap (λ b. when b (Some k) (code_if (lookup v ps))) (ne_eqb (code_of []) (code_of v) (code-none v hv));
   }

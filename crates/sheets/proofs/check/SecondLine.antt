@@ -4,6 +4,7 @@ use native.Mathlib.Omega.{arith}
 use mathlib.Core.Path.{◌≡◌, refl, ap, subst, ◌∙◌}
 use mathlib.Core.Bool.{Bool, true, false}
 use mathlib.Core.List.{List}
+use lib.ListN.{length}
 use Rattle.frames.specs.declared.Ellipsoid.{Ellipsoid}
 use Rattle.sheets.specs.Trees.{Head}
 use Rattle.sheets.specs.LineNumbers.{line_number}
@@ -11,10 +12,10 @@ use Rattle.sheets.specs.Machine.{surface}
 use Rattle.sheets.specs.Answers.{ranged, Verdict, admitted, refused}
 use Rattle.sheets.specs.code.reader.Reader.{Got, none as no_got, got, read_head}
 use Rattle.sheets.specs.code.check.FirstLines.{first_in, first_of}
-use Rattle.sheets.specs.code.check.Walking.{Admits}
+use Rattle.sheets.specs.code.check.Walking.{Outcome, Admits}
 use Rattle.sheets.specs.declared.check.first_line.FirstLine.{FirstLine}
 use Rattle.sheets.specs.declared.check.admit.Admission.{Admission}
-use Rattle.sheets.specs.declared.check.admit.Outcome.{Outcome}
+use Rattle.std.specs.Prelude.{Ok}
 use Rattle.sheets.proofs.reader.LineNumbers.{number-two}
 
 -- line 1 came to this, and line 2 stands there
@@ -35,7 +36,10 @@ behind-first s q eq r er n h = go (read_head s) refl (subst (λ x. Second x n) e
     go no_got eo i = absurd i
     go (got x m) eo i = number-two s x n (eo ∙ ap (got x) (same (ranged x) (surface x) m i))
 
-pub passes-behind : (s : List ℕ) (v : Verdict) (a : Admission) → Admits s v a → (n : ℕ) (d : Ellipsoid) (at : ℕ) → a.outcome ≡ Outcome.Passes n d at → 2 ≡ line_number s at
+pub passes-behind : (s : List ℕ) (v : Verdict) (a : Outcome) → Admits s v a → (p : Admission) → a ≡ Ok p → 2 ≡ line_number s p.start
 unfolding Admits
-passes-behind s (admitted c cs) a (m, eh, el, p) n d at e = let o = p.0 in let i : m ≡ at = cc in number-two s c.head at (eh ∙ ap (got c.head) i)
-passes-behind s (refused r i) a o n d at e = let z : ◌≡◌ {A = ℕ} 0 1 = cc in absurd (omega arith)
+passes-behind s (admitted c cs) a (m, eh, el, h) p e =
+    let o = h.1 in
+    let i : ◌≡◌ {A = Admission} (record { lines = length cs; ellipsoid = surface c.head; start = m; codes = h.0 }) p = cc in
+    number-two s c.head p.start (eh ∙ ap (λ (x : Admission). got c.head x.start) i)
+passes-behind s (refused r i) a o p e = let z : ◌≡◌ {A = ℕ} 0 1 = cc in absurd (omega arith)

@@ -1,5 +1,6 @@
 -- What was read where a reading succeeded, under the tests that the code makes: for the check and the run, which walk an expression again.
 -- (A word is `name-read`, the closing bracket `close-read`; where the code meets nothing of the grammar, `not-read` rules the way out.) Assumes nothing.
+use Rattle.std.specs.Prelude.{Option, Some, None}
 use Prim.Native.Nat.{ℕ, ◌+◌, ◌-◌}
 use native.Mathlib.Omega.{arith}
 use mathlib.Core.Path.{◌≡◌, refl, sym, ap, ◌∙◌}
@@ -13,17 +14,15 @@ use Rattle.sheets.specs.Grammar.{IsWord}
 use Rattle.sheets.specs.code.reader.Codes.{code_of}
 use Rattle.sheets.specs.code.reader.Reader.{Got, none, got, ◌then◌, read_word, read_args, read_expr, or_else, nothing, closing, limit}
 use Rattle.sheets.specs.code.reader.Views.{place, closed, coded}
-use Rattle.sheets.specs.declared.reader.bytes.WordRead.{WordRead}
-use Rattle.sheets.specs.declared.reader.expr.Read.{Read}
 use Rattle.sheets.proofs.reader.PieceSteps.{closing-none, closing-got}
 use Rattle.sheets.proofs.reader.Viewed.{coded-got}
 use Rattle.sheets.proofs.reader.ExprSteps.{args-step, expr-step}
 use Rattle.sheets.proofs.reader.Slices.{word-is}
 
 -- nothing is read where the reader answers Bad
-pub not-read {ℓ} : {A : Type 0} {C : Type ℓ} (o : Got A) (x : A) (n : ℕ) → Read.Bad ≡ place o → o ≡ got x n → C
+pub not-read {ℓ} : {A : Type 0} {C : Type ℓ} (o : Got A) (x : A) (n : ℕ) → None ≡ place o → o ≡ got x n → C
 unfolding place
-not-read o x n h g = let k : Read.Bad ≡ Read.At n = h ∙ ap place g in let z : ◌≡◌ {A = ℕ} 0 1 = cc in absurd (omega arith)
+not-read o x n h g = let k : None ≡ Some n = h ∙ ap place g in let z : ◌≡◌ {A = ℕ} 0 1 = cc in absurd (omega arith)
 
 pub then-read : {A B : Type 0} (o : Got A) (k : A → ℕ → Got B) (y : B) (n : ℕ) → (o then k) ≡ got y n → (x : A) × (m : ℕ) × (o ≡ got x m) × (k x m ≡ got y n)
 unfolding ◌then◌
@@ -31,15 +30,15 @@ then-read none k y n e = let z : ◌≡◌ {A = ℕ} 0 1 = cc in absurd (omega a
 then-read (got x m) k y n e = (x, m, refl, e)
 
 -- `)` and LF
-pub closing-read : {A : Type 0} (x y : A) (s : List ℕ) (m n : ℕ) → closing x s m ≡ got y n → (y ≡ x) × (closed s m ≡ Read.At n)
+pub closing-read : {A : Type 0} (x y : A) (s : List ℕ) (m n : ℕ) → closing x s m ≡ got y n → (y ≡ x) × (closed s m ≡ Some n)
 closing-read x y s m n e = go (closed s m) refl
   where
-    go : (c : Read) → closed s m ≡ c → (y ≡ x) × (closed s m ≡ Read.At n)
-    go Read.Bad h = let i = closing-none x s m (closed s m) refl h in let z : ◌≡◌ {A = ℕ} 0 1 = cc in absurd (omega arith)
-    go (Read.At p) h =
+    go : (c : Option ℕ) → closed s m ≡ c → (y ≡ x) × (closed s m ≡ Some n)
+    go None h = let i = closing-none x s m (closed s m) refl h in let z : ◌≡◌ {A = ℕ} 0 1 = cc in absurd (omega arith)
+    go (Some p) h =
         let i = closing-got x s m (closed s m) refl p h in
         let j : p ≡ n = cc in
-        (cc, h ∙ ap (λ k. Read.At k) j)
+        (cc, h ∙ ap (λ k. Some k) j)
 
 -- at most 200 bytes
 pub limit-read : {A : Type 0} (at : ℕ) (o : Got A) (x : A) (n : ℕ) → limit at o ≡ got x n → (o ≡ got x n) × (leb n (at + 200) ≡ true)
@@ -61,7 +60,7 @@ arg-read x s at b eb left l h es n r =
     (e, m, fs, ex, ef ∙ ap (got fs) i, cc)
 
 -- a bracket; r is what the code read of its word
-pub form-read : (s : List ℕ) (at b : ℕ) → b ≡ get_or s at 0 → (depth : ℕ) → b ≡ 40 → (depth ≡ 0 → ⊥) → (r : WordRead) → r ≡ coded (read_word s (at + 1)) → (k m : ℕ) → r ≡ WordRead.Is k m
+pub form-read : (s : List ℕ) (at b : ℕ) → b ≡ get_or s at 0 → (depth : ℕ) → b ≡ 40 → (depth ≡ 0 → ⊥) → (r : Option (ℕ × ℕ)) → r ≡ coded (read_word s (at + 1)) → (k m : ℕ) → r ≡ Some (k, m)
     → (e : Expr) (n : ℕ) → read_expr depth s at ≡ got e n → (w : Word) × (es : Exprs) × IsWord w × (k ≡ code_of w) × (read_args (read_expr (depth - 1) s) 5 s m ≡ got es n) × (e ≡ form_expr w es)
 form-read s at b eb depth h d r er k m hr e n g =
     let (w, ew, ek) = coded-got (read_word s (at + 1)) r er k m hr in

@@ -1,4 +1,5 @@
 -- The lines after line 1, a step at a time, as the code reads them: what the answer of `line_head` says, and a law for each way out. Assumes nothing.
+use Rattle.std.specs.Prelude.{Option, Some, None}
 use Prim.Native.Nat.{ℕ, ◌+◌, ◌-◌, ◌<◌}
 use native.Mathlib.Omega.{arith}
 use mathlib.Core.Path.{◌≡◌, refl, sym, ap, ap₂, ◌∙◌, subst}
@@ -22,41 +23,37 @@ use Rattle.sheets.proofs.reader.PieceLaws.{space-holds, closing-holds}
 use Rattle.sheets.proofs.reader.PieceSteps.{then-none, spaced-got, spaced-inside, closing-none, closing-got}
 use Rattle.sheets.proofs.reader.RowSteps.{NoneOf, rows-miss, more-none, more-got, first-mapped, one-mapped}
 use Rattle.sheets.proofs.reader.Viewed.{placed-none, placed-got, coded_none, coded-got, doubled-none, doubled-got, named_none, named-got}
-use Rattle.sheets.specs.declared.reader.bytes.WordRead.{WordRead}
-use Rattle.sheets.specs.declared.reader.num.DoubleRead.{DoubleRead}
-use Rattle.sheets.specs.declared.reader.expr.Read.{Read}
 use Rattle.sheets.specs.declared.reader.lines.NameAt.{NameAt}
-use Rattle.sheets.specs.declared.reader.lines.NameRead.{NameRead}
 use Rattle.sheets.specs.declared.reader.lines.WholeLine.{WholeLine}
 use Rattle.sheets.specs.declared.reader.lines.LineHead.{LineHead}
 
 -- ---- a space, a word, and what follows it
-pub slot-inside : (s : List ℕ) (at : ℕ) (r : WordRead) → r ≡ coded (spaced (read_word s) s at) → (k n : ℕ) → r ≡ WordRead.Is k n → at < length s
+pub slot-inside : (s : List ℕ) (at : ℕ) (r : Option (ℕ × ℕ)) → r ≡ coded (spaced (read_word s) s at) → (k n : ℕ) → r ≡ Some (k, n) → at < length s
 slot-inside s at r er k n h = let (w, ew, ek) = coded-got _ r er k n h in spaced-inside (read_word s) s at w n ew
 
-module _ (s : List ℕ) (at : ℕ) (r : WordRead) (er : r ≡ coded (spaced (read_word s) s at)) (f : Word → List ℕ → ℕ → Got Word) where
-  pub no_name : r ≡ WordRead.Not → NameRead.Not ≡ named_at (at + 1) (more read_word f s at)
+module _ (s : List ℕ) (at : ℕ) (r : Option (ℕ × ℕ)) (er : r ≡ coded (spaced (read_word s) s at)) (f : Word → List ℕ → ℕ → Got Word) where
+  pub no_name : r ≡ None → None ≡ named_at (at + 1) (more read_word f s at)
   unfolding named_at
   no_name h = rw (more-none read_word f s at (coded_none _ r er h)) refl
 
-  module _ (k n : ℕ) (h : r ≡ WordRead.Is k n) where
-    pub lost-name : ((w : Word) → f w s n ≡ none) → NameRead.Not ≡ named_at (at + 1) (more read_word f s at)
+  module _ (k n : ℕ) (h : r ≡ Some (k, n)) where
+    pub lost-name : ((w : Word) → f w s n ≡ none) → None ≡ named_at (at + 1) (more read_word f s at)
     unfolding named_at
     lost-name g = let (w, ew, ek) = coded-got _ r er k n h in rw (more-got read_word f s at w n ew ∙ g w) refl
 
-    pub name-read : (m : ℕ) → ((w : Word) → f w s n ≡ got w m) → NameRead.Is (record { code = k; from = at + 1; end = n }) m ≡ named_at (at + 1) (more read_word f s at)
+    pub name-read : (m : ℕ) → ((w : Word) → f w s n ≡ got w m) → Some (record { code = k; from = at + 1; end = n }, m) ≡ named_at (at + 1) (more read_word f s at)
     unfolding named_at
     name-read m g =
         let (w, ew, ek) = coded-got _ r er k n h in
         let e : n ≡ at + 1 + length w = word-spans s (at + 1) w n (spaced-got (read_word s) s at w n ew).1 in
-        ap₂ (λ c i. NameRead.Is (record { code = c; from = at + 1; end = i }) m) ek e ∙ sym (ap (named_at (at + 1)) (more-got read_word f s at w n ew ∙ g w))
+        ap₂ (λ c i. Some (record { code = c; from = at + 1; end = i }, m)) ek e ∙ sym (ap (named_at (at + 1)) (more-got read_word f s at w n ew ∙ g w))
 
 -- ---- the head of a line
 
 -- what is answered of what is begun behind a word that ends at n: of a let its word, which is a WORD, and of any other line what the code has of it
 unfoldable Begins : List ℕ → ℕ → Begun → ℕ → Type 0
 Begins s n (let_word w) m = IsWord w
-Begins s n (whole l) m = (y : WholeLine) × (head_told n (got (whole l) m) ≡ LineHead.Whole y m) × WholeIn s y l
+Begins s n (whole l) m = (y : WholeLine) × (head_told n (got (whole l) m) ≡ Some (LineHead.Whole y m)) × WholeIn s y l
 
 holds-self : {A : Type 0} (o : Got A) → Holds (λ x m. o ≡ got x m) o
 unfolding Holds
@@ -82,12 +79,12 @@ rows-begin s k n =
     holds-none (Begins s n)))))
 
 -- what an answer of `line_head` says of the line that is read at a place
-abbrev Says : List ℕ → ℕ → Got Line → LineHead → Type 0
-Says s at o LineHead.Bad = o ≡ none
-Says s at o (LineHead.Let name n) = (w : Word) × IsWord w × (code_of w ≡ name.code) × (o ≡ limit at (rest s (let_word w) n))
-Says s at o (LineHead.Whole y n) = (l : Line) × WholeIn s y l × (o ≡ limit at (got l n))
+abbrev Says : List ℕ → ℕ → Got Line → Option LineHead → Type 0
+Says s at o None = o ≡ none
+Says s at o (Some (LineHead.Let name n)) = (w : Word) × IsWord w × (code_of w ≡ name.code) × (o ≡ limit at (rest s (let_word w) n))
+Says s at o (Some (LineHead.Whole y n)) = (l : Line) × WholeIn s y l × (o ≡ limit at (got l n))
 
-pub head-says : (s : List ℕ) (at : ℕ) (r : LineHead) → r ≡ line_head s at → (q : LineHead) → r ≡ q → Says s at (read_line s at) q
+pub head-says : (s : List ℕ) (at : ℕ) (r : Option LineHead) → r ≡ line_head s at → (q : Option LineHead) → r ≡ q → Says s at (read_line s at) q
 unfolding read_line read_begun read_rows head_opened head_told Begins Holds limit rest ◌then◌
 head-says s at r er q h = subst (Says s at (read_line s at)) (sym er ∙ h) (go (opening s at))
   where
@@ -103,26 +100,26 @@ head-says s at r er q h = subst (Says s at (read_line s at)) (sym er ∙ h) (go 
 -- ---- a line that a word opens
 
 -- the answer for what was read
-abbrev told_by : {B : Type 0} → (B → ℕ → LineHead) → Got B → LineHead
-told_by f none = LineHead.Bad
+abbrev told_by : {B : Type 0} → (B → ℕ → Option LineHead) → Got B → Option LineHead
+told_by f none = None
 told_by f (got v m) = f v m
 
-module _ (s : List ℕ) (at : ℕ) (r : WordRead) (er : r ≡ coded (opening s at)) where
-  pub head-no-word : r ≡ WordRead.Not → LineHead.Bad ≡ line_head s at
+module _ (s : List ℕ) (at : ℕ) (r : Option (ℕ × ℕ)) (er : r ≡ coded (opening s at)) where
+  pub head-no-word : r ≡ None → None ≡ line_head s at
   unfolding head_opened
   head-no-word h = ap (head_opened s) (sym (coded_none (opening s at) r er h))
 
   -- the rows go by its code
-  pub head_opened_lem : (k n : ℕ) → r ≡ WordRead.Is k n → head_told n (from_rows line_rows k s n) ≡ line_head s at
+  pub head_opened_lem : (k n : ℕ) → r ≡ Some (k, n) → head_told n (from_rows line_rows k s n) ≡ line_head s at
   unfolding head_opened
   head_opened_lem k n h = let (w, ew, ek) = coded-got (opening s at) r er k n h in ap (λ c. head_told n (from_rows line_rows c s n)) ek ∙ ap (head_opened s) (sym ew)
 
 module _ (s : List ℕ) (k n : ℕ) where
-  abbrev Opens : {B : Type 0} → List (Row Begun) → (B → ℕ → LineHead) → Got B → Type 0
+  abbrev Opens : {B : Type 0} → List (Row Begun) → (B → ℕ → Option LineHead) → Got B → Type 0
   Opens rs f o = head_told n (from_rows rs k s n) ≡ told_by f o
 
   -- the row of the word reads o, and the code tells it so
-  opens_by : {B : Type 0} (rs : List (Row Begun)) (make : B → Begun) (f : B → ℕ → LineHead) (o : Got B) → from_rows rs k s n ≡ mapped make o → ((v : B) (m : ℕ) → head_told n (got (make v) m) ≡ f v m) → Opens rs f o
+  opens_by : {B : Type 0} (rs : List (Row Begun)) (make : B → Begun) (f : B → ℕ → Option LineHead) (o : Got B) → from_rows rs k s n ≡ mapped make o → ((v : B) (m : ℕ) → head_told n (got (make v) m) ≡ f v m) → Opens rs f o
   unfolding mapped head_told
   opens_by {B} rs make f o e t = ap (head_told n) e ∙ go o
     where
@@ -130,7 +127,7 @@ module _ (s : List ℕ) (k n : ℕ) where
       go none = refl
       go (got v m) = t v m
 
-  pub opens-let : k ≡ code_of (ascii "let") → Opens line_rows (λ w m. LineHead.Let (name_at w (n + 1)) m) (first read_word (λ w. w) s n)
+  pub opens-let : k ≡ code_of (ascii "let") → Opens line_rows (λ w m. Some (LineHead.Let (name_at w (n + 1)) m)) (first read_word (λ w. w) s n)
   unfolding line_rows from_rows or_else code_from word_char head_told
   opens-let e = opens_by line_rows let_word _ (first read_word (λ w. w) s n) (rw e (first-mapped read_word let_word s n)) (λ w m. refl)
 
@@ -138,12 +135,12 @@ module _ (s : List ℕ) (k n : ℕ) where
   unfolding line_rows from_rows or_else
   opens-whole e = rw (ne_eqb k (code_of (ascii "let")) e) refl
 
-  pub opens-show : k ≡ code_of (ascii "show") → Opens whole_rows (λ w m. LineHead.Whole (WholeLine.Show (name_at w (n + 1))) m) (one read_word (λ w. w) s n)
+  pub opens-show : k ≡ code_of (ascii "show") → Opens whole_rows (λ w m. Some (LineHead.Whole (WholeLine.Show (name_at w (n + 1))) m)) (one read_word (λ w. w) s n)
   unfolding whole_rows from_rows or_else code_from word_char head_told
   opens-show e = opens_by whole_rows (λ w. whole (show_line w)) _ (one read_word (λ w. w) s n) (rw e (one-mapped read_word (λ w. whole (show_line w)) s n)) (λ w m. refl)
 
   -- a line without parts
-  opens-bare : (l : Line) (y : WholeLine) → ((m : ℕ) → head_told n (got (whole l) m) ≡ LineHead.Whole y m) → from_rows whole_rows k s n ≡ closing (whole l) s n → bare_head y (closed s n) ≡ head_told n (from_rows whole_rows k s n)
+  opens-bare : (l : Line) (y : WholeLine) → ((m : ℕ) → head_told n (got (whole l) m) ≡ Some (LineHead.Whole y m)) → from_rows whole_rows k s n ≡ closing (whole l) s n → bare_head y (closed s n) ≡ head_told n (from_rows whole_rows k s n)
   unfolding mapped head_told place bare_head
   opens-bare l y t e = go (closing tt s n) ∙ sym (ap (head_told n) (e ∙ closing-mapped (whole l) s n))
     where
@@ -155,29 +152,29 @@ module _ (s : List ℕ) (k n : ℕ) where
   unfolding whole_rows from_rows or_else code_from word_char head_told
   opens-total e = opens-bare total_line WholeLine.Total (λ m. refl) (rw e refl)
 
-  pub opens-apart : k ≡ code_of (ascii "apart") → Opens whole_rows (λ q m. LineHead.Whole (WholeLine.Apart (num_value (signless q))) m) (one read_unsigned (λ q. q) s n)
+  pub opens-apart : k ≡ code_of (ascii "apart") → Opens whole_rows (λ q m. Some (LineHead.Whole (WholeLine.Apart (num_value (signless q))) m)) (one read_unsigned (λ q. q) s n)
   unfolding whole_rows from_rows or_else code_from word_char head_told
   opens-apart e = opens_by whole_rows (λ q. whole (apart_line q)) _ (one read_unsigned (λ q. q) s n) (rw e (one-mapped read_unsigned (λ q. whole (apart_line q)) s n)) (λ q m. refl)
 
   -- a word that no row has
-  pub opens-none : NoneOf whole_rows k → LineHead.Bad ≡ head_told n (from_rows whole_rows k s n)
+  pub opens-none : NoneOf whole_rows k → None ≡ head_told n (from_rows whole_rows k s n)
   unfolding head_told
   opens-none h = sym (ap (head_told n) (rows-miss whole_rows k s n h))
 
 -- by what the code read of a word
-module _ (x : LineHead) (n : ℕ) (f : NameAt → ℕ → LineHead) (o : Got Word) (t : x ≡ told_by (λ w m. f (name_at w (n + 1)) m) o) (v : NameRead) (ev : v ≡ named_at (n + 1) o) where
-  pub unnamed : v ≡ NameRead.Not → LineHead.Bad ≡ x
+module _ (x : Option LineHead) (n : ℕ) (f : NameAt → ℕ → Option LineHead) (o : Got Word) (t : x ≡ told_by (λ w m. f (name_at w (n + 1)) m) o) (v : Option (NameAt × ℕ)) (ev : v ≡ named_at (n + 1) o) where
+  pub unnamed : v ≡ None → None ≡ x
   unnamed i = sym (t ∙ ap (told_by (λ w m. f (name_at w (n + 1)) m)) (named_none (n + 1) o v ev i))
 
-  pub name-told : (y : NameAt) (m : ℕ) → v ≡ NameRead.Is y m → f y m ≡ x
+  pub name-told : (y : NameAt) (m : ℕ) → v ≡ Some (y, m) → f y m ≡ x
   name-told y m i = let (w, ew, ey) = named-got (n + 1) o v ev y m i in ap (λ z. f z m) ey ∙ sym (t ∙ ap (told_by (λ w m. f (name_at w (n + 1)) m)) ew)
 
 -- by what the code read of a NUM
-module _ (x : LineHead) (f : Float → ℕ → LineHead) (o : Got Unsigned) (t : x ≡ told_by (λ q m. f (num_value (signless q)) m) o) (v : DoubleRead) (ev : v ≡ unsigned_double o) where
-  pub no-double : v ≡ DoubleRead.Not → LineHead.Bad ≡ x
+module _ (x : Option LineHead) (f : Float → ℕ → Option LineHead) (o : Got Unsigned) (t : x ≡ told_by (λ q m. f (num_value (signless q)) m) o) (v : Option (Float × ℕ)) (ev : v ≡ unsigned_double o) where
+  pub no-double : v ≡ None → None ≡ x
   no-double i = sym (t ∙ ap (told_by (λ q m. f (num_value (signless q)) m)) (doubled-none signless o v ev i))
 
-  pub double-told : (y : Float) (m : ℕ) → v ≡ DoubleRead.Is y m → f y m ≡ x
+  pub double-told : (y : Float) (m : ℕ) → v ≡ Some (y, m) → f y m ≡ x
   double-told y m i = let (q, eq, ey) = doubled-got signless o v ev y m i in ap (λ z. f z m) ey ∙ sym (t ∙ ap (told_by (λ q m. f (num_value (signless q)) m)) eq)
 
 -- ---- the end of a line
@@ -189,11 +186,11 @@ short-test at n = go (leb n (at + 200)) refl
     go false e = lt-leb (n - 200) at (omega (arith, leb-false n (at + 200) e))
 
 module _ (at n : ℕ) (t : Bool) (et : t ≡ leb n (at + 200)) where
-  pub end_short : t ≡ true → Read.At n ≡ short_end at n
+  pub end_short : t ≡ true → Some n ≡ short_end at n
   unfolding limit place or_else
   end_short h = rw (sym et ∙ h) refl
 
-  pub end-long : t ≡ false → Read.Bad ≡ short_end at n
+  pub end-long : t ≡ false → None ≡ short_end at n
   unfolding limit place or_else
   end-long h = rw (sym et ∙ h) refl
 
@@ -205,28 +202,28 @@ short-is {A} x at n = go (leb n (at + 200))
     go true = refl
     go false = refl
 
-module _ (s : List ℕ) (at : ℕ) (r : LineHead) (er : r ≡ line_head s at) where
-  pub end-bad : r ≡ LineHead.Bad → Read.Bad ≡ place (read_line s at)
+module _ (s : List ℕ) (at : ℕ) (r : Option LineHead) (er : r ≡ line_head s at) where
+  pub end-bad : r ≡ None → None ≡ place (read_line s at)
   unfolding place
   end-bad h = ap place (sym (head-says s at r er _ h))
 
-  pub end_whole : (y : WholeLine) (n : ℕ) → r ≡ LineHead.Whole y n → (v : Read) → v ≡ short_end at n → v ≡ place (read_line s at)
+  pub end_whole : (y : WholeLine) (n : ℕ) → r ≡ Some (LineHead.Whole y n) → (v : Option ℕ) → v ≡ short_end at n → v ≡ place (read_line s at)
   end_whole y n h v ev = let (l, t, e) = head-says s at r er _ h in ev ∙ short-is l at n ∙ ap place (sym e)
 
-  module _ (y : NameAt) (n : ℕ) (h : r ≡ LineHead.Let y n) (x : Read) (ex : x ≡ place (read_expr 11 s n)) where
-    pub end-no-expr : x ≡ Read.Bad → Read.Bad ≡ place (read_line s at)
+  module _ (y : NameAt) (n : ℕ) (h : r ≡ Some (LineHead.Let y n)) (x : Option ℕ) (ex : x ≡ place (read_expr 11 s n)) where
+    pub end-no-expr : x ≡ None → None ≡ place (read_line s at)
     unfolding place limit rest
     end-no-expr i = let (w, hw, ew, e) = head-says s at r er _ h in ap place (sym (e ∙ ap (limit at) (then-none (read_expr 11 s n) _ (placed-none _ x ex i))))
 
-    module _ (m : ℕ) (i : x ≡ Read.At m) (c : Read) (ec : c ≡ closed s m) where
-      pub end-no-end : c ≡ Read.Bad → Read.Bad ≡ place (read_line s at)
+    module _ (m : ℕ) (i : x ≡ Some m) (c : Option ℕ) (ec : c ≡ closed s m) where
+      pub end-no-end : c ≡ None → None ≡ place (read_line s at)
       unfolding place limit rest
       end-no-end j =
           let (w, hw, ew, e) = head-says s at r er _ h in
           let (z, ez) = placed-got _ x ex m i in
           ap place (sym (e ∙ ap (limit at) (then-got (read_expr 11 s n) _ z m ez ∙ closing-none (let_line w z) s m c ec j)))
 
-      pub end-let : (k : ℕ) → c ≡ Read.At k → (v : Read) → v ≡ short_end at k → v ≡ place (read_line s at)
+      pub end-let : (k : ℕ) → c ≡ Some k → (v : Option ℕ) → v ≡ short_end at k → v ≡ place (read_line s at)
       unfolding rest
       end-let k j v ev =
           let (w, hw, ew, e) = head-says s at r er _ h in

@@ -1,4 +1,5 @@
 -- The pieces of a line, a step at a time, as the code reads them: `(` and a word, a space and what follows it, `)` and LF. Assumes nothing.
+use Rattle.std.specs.Prelude.{Option, Some, None}
 use Prim.Native.Nat.{ℕ, ◌+◌, ◌<◌}
 use native.Mathlib.Omega.{arith}
 use mathlib.Core.Path.{◌≡◌, refl, ap, ◌∙◌}
@@ -11,7 +12,6 @@ use Rattle.sheets.specs.code.reader.Reader.{Got, none, got, ◌then◌, or_else,
 use Rattle.sheets.specs.code.reader.Views.{place, closed}
 use Rattle.sheets.proofs.reader.ReaderLaws.{mapped, closing-mapped, byte_inside}
 use Rattle.sheets.proofs.reader.Viewed.{placed-none, placed-got}
-use Rattle.sheets.specs.declared.reader.expr.Read.{Read}
 
 module _ (s : List ℕ) (at b : ℕ) (eb : b ≡ get_or s at 0) where
   pub open_none : (b ≡ 40 → ⊥) → opening s at ≡ none
@@ -23,16 +23,16 @@ module _ (s : List ℕ) (at b : ℕ) (eb : b ≡ get_or s at 0) where
     unfolding spaced or_else
     spaced-none h = rw (← eb, ne_eqb b 32 h) refl
 
-  pub close-none : (b ≡ 41 → ⊥) → Read.Bad ≡ closed s at
+  pub close-none : (b ≡ 41 → ⊥) → None ≡ closed s at
   unfolding closing or_else place
   close-none h = rw (← eb, ne_eqb b 41 h) refl
 
   module _ (h : b ≡ 41) (c : ℕ) (ec : c ≡ get_or s (at + 1) 0) where
-    pub close-is : c ≡ 10 → Read.At (at + 2) ≡ closed s at
+    pub close-is : c ≡ 10 → Some (at + 2) ≡ closed s at
     unfolding closing or_else place
     close-is i = rw (← eb, eq-eqb b 41 h, ← ec, eq-eqb c 10 i) refl
 
-    pub close-no-end : (c ≡ 10 → ⊥) → Read.Bad ≡ closed s at
+    pub close-no-end : (c ≡ 10 → ⊥) → None ≡ closed s at
     unfolding closing or_else place
     close-no-end i = rw (← eb, eq-eqb b 41 h, ← ec, ne_eqb c 10 i) refl
 
@@ -54,11 +54,11 @@ module _ {A : Type 0} (f : ℕ → Got A) (s : List ℕ) (at : ℕ) (x : A) (n :
   pub spaced-inside : at < length s
   spaced-inside = byte_inside s at 32 spaced-got.0 (omega arith)
 
-module _ {A : Type 0} (x : A) (s : List ℕ) (at : ℕ) (r : Read) (er : r ≡ closed s at) where
-  pub closing-none : r ≡ Read.Bad → closing x s at ≡ none
+module _ {A : Type 0} (x : A) (s : List ℕ) (at : ℕ) (r : Option ℕ) (er : r ≡ closed s at) where
+  pub closing-none : r ≡ None → closing x s at ≡ none
   unfolding mapped
   closing-none h = closing-mapped x s at ∙ ap (mapped (λ u. x)) (placed-none (closing tt s at) r er h)
 
-  pub closing-got : (n : ℕ) → r ≡ Read.At n → closing x s at ≡ got x n
+  pub closing-got : (n : ℕ) → r ≡ Some n → closing x s at ≡ got x n
   unfolding mapped
   closing-got n h = let (u, eu) = placed-got (closing tt s at) r er n h in closing-mapped x s at ∙ ap (mapped (λ u. x)) eu

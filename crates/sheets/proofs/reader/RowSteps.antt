@@ -1,4 +1,5 @@
 -- A line's opening word and what follows it, a step at a time, as code reads it, whatever the line. Assumes nothing.
+use Rattle.std.specs.Prelude.{Option, Some, None}
 use Prim.Native.Nat.{ℕ, ◌+◌}
 use mathlib.Core.Path.{◌≡◌, refl, sym, ap, ◌∙◌}
 use mathlib.Core.Bool.{Bool, true, false}
@@ -13,15 +14,14 @@ use Rattle.sheets.specs.code.reader.Views.{coded}
 use Rattle.sheets.proofs.reader.ReaderLaws.{then-got, mapped, space-mapped, closing-mapped}
 use Rattle.sheets.proofs.reader.PieceSteps.{then-none}
 use Rattle.sheets.proofs.reader.Viewed.{coded_none, coded-got}
-use Rattle.sheets.specs.declared.reader.bytes.WordRead.{WordRead}
 
 -- the opening word tells the row
-module _ {A : Type 0} (rs : List (Row A)) (s : List ℕ) (at : ℕ) (r : WordRead) (er : r ≡ coded (opening s at)) where
-  pub rows_none : r ≡ WordRead.Not → read_rows rs s at ≡ none
+module _ {A : Type 0} (rs : List (Row A)) (s : List ℕ) (at : ℕ) (r : Option (ℕ × ℕ)) (er : r ≡ coded (opening s at)) where
+  pub rows_none : r ≡ None → read_rows rs s at ≡ none
   unfolding read_rows
   rows_none h = then-none (opening s at) (λ k n. from_rows rs (code_of k) s n) (coded_none _ r er h)
 
-  pub rows-got : (k n : ℕ) → r ≡ WordRead.Is k n → read_rows rs s at ≡ from_rows rs k s n
+  pub rows-got : (k n : ℕ) → r ≡ Some (k, n) → read_rows rs s at ≡ from_rows rs k s n
   unfolding read_rows
   rows-got k n h = let (w, ew, ek) = coded-got (opening s at) r er k n h in then-got (opening s at) _ w n ew ∙ ap (λ c. from_rows rs c s n) (sym ek)
 

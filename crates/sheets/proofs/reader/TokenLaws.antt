@@ -17,10 +17,10 @@ use Rattle.sheets.proofs.reader.ReaderLaws.{chars-stop, chars-more, whole_is, pa
 use Rattle.sheets.proofs.reader.Spans.{Spans, spans-append, spans-split, spans-end, Holds, holds-none, holds-got, holds_at}
 
 -- ---- characters
-abbrev pub Some : (ℕ → ℕ) → ℕ → Type 0
-Some f b = f b ≡ 0 → ⊥
+abbrev pub Counted : (ℕ → ℕ) → ℕ → Type 0
+Counted f b = f b ≡ 0 → ⊥
 
-pub letter-is : (b : ℕ) → Some letter b → Letter b
+pub letter-is : (b : ℕ) → Counted letter b → Letter b
 unfolding letter
 letter-is b = go (leb 97 b) refl (leb b 122) refl
   where
@@ -29,11 +29,11 @@ letter-is b = go (leb 97 b) refl (leb b 122) refl
     go true ep false eq h = absurd (h refl)
     go false ep q eq h = absurd (h refl)
 
-is-letter : (b : ℕ) → Letter b → Some letter b
+is-letter : (b : ℕ) → Letter b → Counted letter b
 unfolding letter
 is-letter b h e = let z = rw (le-leb 97 b h.0, le-leb b 122 h.1) at e in omega arith
 
-pub digit-is : (b : ℕ) → Some digit b → Digit b
+pub digit-is : (b : ℕ) → Counted digit b → Digit b
 unfolding digit
 digit-is b = go (leb 48 b) refl (leb b 57) refl
   where
@@ -42,11 +42,11 @@ digit-is b = go (leb 48 b) refl (leb b 57) refl
     go true ep false eq h = absurd (h refl)
     go false ep q eq h = absurd (h refl)
 
-pub is_digit : (b : ℕ) → Digit b → Some digit b
+pub is_digit : (b : ℕ) → Digit b → Counted digit b
 unfolding digit
 is_digit b h e = let z = rw (le-leb 48 b h.0, le-leb b 57 h.1) at e in omega arith
 
-pub char_is : (b : ℕ) → Some word_char b → Letter b ⊎ Digit b
+pub char_is : (b : ℕ) → Counted word_char b → Letter b ⊎ Digit b
 unfolding word_char
 char_is b = go (leb 97 b) refl (leb b 122) refl (leb 48 b) refl (leb b 57) refl
   where
@@ -58,7 +58,7 @@ char_is b = go (leb 97 b) refl (leb b 122) refl (leb 48 b) refl (leb b 57) refl
     go false ep q eq true er false et h = absurd (h refl)
     go false ep q eq false er t et h = absurd (h refl)
 
-pub is-char : (b : ℕ) → Letter b ⊎ Digit b → Some word_char b
+pub is-char : (b : ℕ) → Letter b ⊎ Digit b → Counted word_char b
 unfolding word_char
 is-char b (inl h) e = let z = rw (le-leb 97 b h.0, le-leb b 122 h.1) at e in omega arith
 is-char b (inr h) e = let z = rw (lt-leb 97 b (omega arith), le-leb 48 b h.0, le-leb b 57 h.1) at e in omega arith
@@ -83,7 +83,7 @@ close-stops s n h = (rw h refl, rw h refl, λ e. omega arith)
 module _ (f : ℕ → ℕ) (s : List ℕ) where
   pub record Run (k at : ℕ) (w : List ℕ) : Type 0 where
     pub span : Spans s w at (at + length w)
-    pub each : Each (Some f) w
+    pub each : Each (Counted f) w
     pub most : length w ≤ k
 
   pub chars-run : (k at : ℕ) → Run k at (chars f k s at)
@@ -97,7 +97,7 @@ module _ (f : ℕ → ℕ) (s : List ℕ) where
           let i : at + 1 + length (chars f k s (at + 1)) ≡ at + suc (length (chars f k s (at + 1))) = omega arith in
           record { span = (refl, rw i at r.span); each = (eqb-false _ _ e, r.each); most = omega (arith, r.most) }
 
-  chars-complete : (w : List ℕ) (k at n : ℕ) → Spans s w at n → Each (Some f) w → length w ≤ k → f (get_or s n 0) ≡ 0 → chars f k s at ≡ w
+  chars-complete : (w : List ℕ) (k at n : ℕ) → Spans s w at n → Each (Counted f) w → length w ≤ k → f (get_or s n 0) ≡ 0 → chars f k s at ≡ w
   unfolding Spans
   chars-complete [] k at n p h l e = chars-stop f s k at (rw p e)
   chars-complete (c ∷ w) zero at n p h l e = absurd (omega arith)
@@ -122,7 +122,7 @@ word_sound s at = go (eqb (letter (get_or s at 0)) 0) refl
         let w = chars word_char 11 s (at + 1) in
         let i : at + 1 + length w ≡ at + suc (length w) = omega arith in
         holds-got (WordAt s at) (get_or s at 0 ∷ w) (at + suc (length w))
-        ((refl, rw i at r.span), (letter-is _ (eqb-false _ _ e), each_map (Some word_char) (λ b. Letter b ⊎ Digit b) char_is w r.each, r.most))
+        ((refl, rw i at r.span), (letter-is _ (eqb-false _ _ e), each_map (Counted word_char) (λ b. Letter b ⊎ Digit b) char_is w r.each, r.most))
 
 pub word-spans : (s : List ℕ) (at : ℕ) (w : Word) (n : ℕ) → read_word s at ≡ got w n → n ≡ at + length w
 word-spans s at w n e = spans-end s w at n (holds_at (WordAt s at) (read_word s at) w n (word_sound s at) e).0
@@ -132,7 +132,7 @@ unfolding read_word word_if Spans
 word-complete s [] at n p h e = absurd h
 word-complete s (c ∷ w) at n p h e =
     let i : n ≡ at + suc (length w) = spans-end s (c ∷ w) at n p in
-    let r : chars word_char 11 s (at + 1) ≡ w = chars-complete word_char s w 11 (at + 1) n p.1 (each_map (λ b. Letter b ⊎ Digit b) (Some word_char) is-char w h.1) h.2 e.0 in
+    let r : chars word_char 11 s (at + 1) ≡ w = chars-complete word_char s w 11 (at + 1) n p.1 (each_map (λ b. Letter b ⊎ Digit b) (Counted word_char) is-char w h.1) h.2 e.0 in
     rw (ne_eqb (letter (get_or s at 0)) 0 (rw p.0 (is-letter c h.0)), r, p.0, i) refl
 
 pub no_word : (s : List ℕ) (at : ℕ) → letter (get_or s at 0) ≡ 0 → read_word s at ≡ none
@@ -156,7 +156,7 @@ whole-sound s m at = go (chars digit 9 s at) (chars-run digit s 9 at)
     behind c w (d ∷ t) r e u =
         holds-got (WholeAt s m at) (record { minus = m; whole = c ∷ w; part = d ∷ t }) _ (
           spans-append s (c ∷ w) (46 ∷ d ∷ t) at (at + length (c ∷ w)) _ r.span (e, u.span),
-          (each_map (Some digit) Digit digit-is (c ∷ w) r.each, omega arith, r.most, each_map (Some digit) Digit digit-is (d ∷ t) u.each, u.most),
+          (each_map (Counted digit) Digit digit-is (c ∷ w) r.each, omega arith, r.most, each_map (Counted digit) Digit digit-is (d ∷ t) u.each, u.most),
           refl,
         )
 
@@ -166,7 +166,7 @@ whole-sound s m at = go (chars digit 9 s at) (chars-run digit s 9 at)
     after c w r false e =
         holds-got (WholeAt s m at) (record { minus = m; whole = c ∷ w; part = [] }) _ (
           spans-append s (c ∷ w) [] at (at + length (c ∷ w)) _ r.span refl,
-          (each_map (Some digit) Digit digit-is (c ∷ w) r.each, omega arith, r.most, tt, omega arith),
+          (each_map (Counted digit) Digit digit-is (c ∷ w) r.each, omega arith, r.most, tt, omega arith),
           refl,
         )
 
@@ -194,7 +194,7 @@ whole-complete s m w t at n p hw one nine ht six e = go t p ht six
     goes : (k : ℕ) → Spans s w at k → digit (get_or s k 0) ≡ 0 → (b : Bool) → eqb (get_or s k 0) 46 ≡ b → read_whole m s at ≡ part_if b m w s k
     goes k q z b eb =
         let i : at + length w ≡ k = sym (spans-end s w at k q) in
-        ap (λ ds. whole_step m ds s at) (chars-complete digit s w 9 at k q (each_map Digit (Some digit) is_digit w hw) nine z)
+        ap (λ ds. whole_step m ds s at) (chars-complete digit s w 9 at k q (each_map Digit (Counted digit) is_digit w hw) nine z)
         ∙ whole_is m w s at (λ l. omega arith) ∙ rw (i, eb) refl
 
     point-digit : (k : ℕ) → get_or s k 0 ≡ 46 → digit (get_or s k 0) ≡ 0
@@ -207,7 +207,7 @@ whole-complete s m w t at n p hw one nine ht six e = go t p ht six
         goes n (rw i at q) e.1 false (ne_eqb (get_or s n 0) 46 e.2)
     go (d ∷ t) p ht six =
         let (k, q, r) = spans-split s w (46 ∷ d ∷ t) at n p in
-        let u : chars digit 6 s (k + 1) ≡ d ∷ t = chars-complete digit s (d ∷ t) 6 (k + 1) n r.1 (each_map Digit (Some digit) is_digit (d ∷ t) ht) six e.1 in
+        let u : chars digit 6 s (k + 1) ≡ d ∷ t = chars-complete digit s (d ∷ t) 6 (k + 1) n r.1 (each_map Digit (Counted digit) is_digit (d ∷ t) ht) six e.1 in
         goes k q (point-digit k r.0) true (eq-eqb (get_or s k 0) 46 r.0)
         ∙ ap (λ ds. part_end m w ds (k + 1)) u ∙ part-is m w (d ∷ t) (k + 1) (λ l. omega arith)
         ∙ ap (got (record { minus = m; whole = w; part = d ∷ t })) (sym (spans-end s (d ∷ t) (k + 1) n r.1))

@@ -1,4 +1,5 @@
 -- A bracket, a step at a time. Assumes nothing.
+use Rattle.std.specs.Prelude.{Option, Some, None}
 use Prim.Native.Nat.{ℕ, suc, ◌+◌, ◌-◌, ◌*◌}
 use native.Mathlib.Omega.{arith}
 use mathlib.Core.Path.{◌≡◌, refl, sym, ap, subst, ◌∙◌}
@@ -8,8 +9,6 @@ use lib.Ieee.{Float}
 use Rattle.frames.specs.declared.Ellipsoid.{Ellipsoid}
 use Rattle.frames.specs.declared.LocalFrame.{LocalFrame}
 use Rattle.sheets.specs.declared.Value.{Value}
-use Rattle.sheets.specs.declared.reader.bytes.WordRead.{WordRead}
-use Rattle.sheets.specs.declared.reader.expr.Read.{Read}
 use Rattle.sheets.specs.declared.Evaluated.{Evaluated}
 use Rattle.sheets.specs.Text.{Word}
 use Rattle.sheets.specs.Trees.{Exprs, nil}
@@ -64,7 +63,7 @@ module _ (n top : ℕ) (f : List Float) (r : Evaluated) (g : List Float) where
 
 -- ---- the bracket, where its word was read
 
-pub evals-form : (s : List ℕ) (at b : ℕ) → b ≡ get_or s at 0 → (depth : ℕ) → b ≡ 40 → (depth ≡ 0 → ⊥) → (r : WordRead) → r ≡ coded (read_word s (at + 1)) → (k m : ℕ) → r ≡ WordRead.Is k m
+pub evals-form : (s : List ℕ) (at b : ℕ) → b ≡ get_or s at 0 → (depth : ℕ) → b ≡ 40 → (depth ≡ 0 → ⊥) → (r : Option (ℕ × ℕ)) → r ≡ coded (read_word s (at + 1)) → (k m : ℕ) → r ≡ Some (k, m)
     → (e : Ellipsoid) (names : Names) (f : List Float) (top : ℕ) (q : Evaluated) (g : List Float) → BracketWith s m (depth - 1) 5 e k names 0 f top q g → EvalsWith s at depth e names f top q g
 unfolding eval key_from values_at
 evals-form s at b eb depth h d r er k m hr e names f top q g hq = record {
@@ -78,7 +77,7 @@ evals-form s at b eb depth h d r er k m hr e names f top q g hq = record {
 -- ---- the arguments
 
 module _ (s : List ℕ) (at b : ℕ) (eb : b ≡ get_or s at 0) (depth left : ℕ) (e : Ellipsoid) (code : ℕ) (names : Names) (key : ℕ) (f : List Float) (top : ℕ) where
-  bracket-bad : (r : Evaluated) (g : List Float) → Read.Bad ≡ place (read_args (read_expr depth s) left s at) → BracketWith s at depth left e code names key f top r g
+  bracket-bad : (r : Evaluated) (g : List Float) → None ≡ place (read_args (read_expr depth s) left s at) → BracketWith s at depth left e code names key f top r g
   bracket-bad r g h = record { is = λ ps rd ks ek el w iw ec. record { is = λ es n k. not-read (read_args (read_expr depth s) left s at) es n h k } }
 
   pub bracket-sixth : b ≡ 32 → left ≡ 0 → (r : Evaluated) (g : List Float) → BracketWith s at depth left e code names key f top r g

@@ -1,4 +1,5 @@
 -- The evaluator, a step at a time: what follows from each answer that the code met on the way. Assumes nothing.
+use Rattle.std.specs.Prelude.{Option, Some, None}
 use Prim.Native.Nat.{ℕ, ◌+◌, ◌*◌, ◌<◌, ◌≤◌}
 use native.Mathlib.Omega.{arith}
 use mathlib.Core.Path.{◌≡◌, refl, sym, ap, subst, ◌∙◌}
@@ -11,9 +12,6 @@ use borrow.Author.Tests.{eq-eqb, ne_eqb, le-leb, lt-leb}
 use Rattle.frames.specs.declared.Ellipsoid.{Ellipsoid}
 use Rattle.sheets.specs.declared.Value.{Value}
 use Rattle.sheets.specs.declared.Value.TheVariants.{Number}
-use Rattle.sheets.specs.declared.reader.bytes.WordRead.{WordRead}
-use Rattle.sheets.specs.declared.reader.num.DoubleRead.{DoubleRead}
-use Rattle.sheets.specs.declared.reader.expr.Read.{Read}
 use Rattle.sheets.specs.declared.Evaluated.{Evaluated}
 use Rattle.sheets.specs.Text.{Word}
 use Rattle.sheets.specs.Trees.{word_expr, num_expr}
@@ -81,8 +79,8 @@ module _ (code n : ℕ) (names : Names) (f : List Float) (top : ℕ) (room : top
 
 -- ---- a word or a NUM
 
-module _ (s : List ℕ) (at : ℕ) (names : Names) (f : List Float) (top : ℕ) (r : WordRead) (er : r ≡ coded (read_word s at)) where
-  pub leaf-word : (k m : ℕ) → r ≡ WordRead.Is k m → (q : Evaluated) (g : List Float) → KnownWith k m names f top q g → LeafWith s at names f top q g
+module _ (s : List ℕ) (at : ℕ) (names : Names) (f : List Float) (top : ℕ) (r : Option (ℕ × ℕ)) (er : r ≡ coded (read_word s at)) where
+  pub leaf-word : (k m : ℕ) → r ≡ Some (k, m) → (q : Evaluated) (g : List Float) → KnownWith k m names f top q g → LeafWith s at names f top q g
   unfolding read_leaf or_num eval
   leaf-word k m h q g hq = record {
     is = λ ps rd e x n k'.
@@ -93,12 +91,12 @@ module _ (s : List ℕ) (at : ℕ) (names : Names) (f : List Float) (top : ℕ) 
         rw (ix, im) (hq.is ps rd w (word-is s at w m ew) ek);
   }
 
-  module _ (h : r ≡ WordRead.Not) (v : DoubleRead) (ev : v ≡ doubled (read_num s at)) where
+  module _ (h : r ≡ None) (v : Option (Float × ℕ)) (ev : v ≡ doubled (read_num s at)) where
     leaf-is : read_leaf s at ≡ read_num s at then (λ x n. got (num_expr x) n)
     unfolding read_leaf or_num
     leaf-is = ap (λ o. or_num o (read_num s at)) (coded_none (read_word s at) r er h)
 
-    pub leaf-num : top + 21 ≤ 2940 → (y : Float) (m : ℕ) → v ≡ DoubleRead.Is y m → (q : Evaluated) → q ≡ tested_at 0 (set f top y) top m → LeafWith s at names f top q (set f top y)
+    pub leaf-num : top + 21 ≤ 2940 → (y : Float) (m : ℕ) → v ≡ Some (y, m) → (q : Evaluated) → q ≡ tested_at 0 (set f top y) top m → LeafWith s at names f top q (set f top y)
     unfolding ◌then◌ eval
     leaf-num room y m i q eq = record {
       is = λ ps rd e x n k.
@@ -109,7 +107,7 @@ module _ (s : List ℕ) (at : ℕ) (names : Names) (f : List Float) (top : ℕ) 
           rw (ix, im, ← ey) (met-number y f top m rd.listed.size room q eq);
     }
 
-    pub leaf-none : v ≡ DoubleRead.Not → (q : Evaluated) (g : List Float) → LeafWith s at names f top q g
+    pub leaf-none : v ≡ None → (q : Evaluated) (g : List Float) → LeafWith s at names f top q g
     unfolding ◌then◌
     leaf-none i q g = record {
       is = λ ps rd e x n k.
@@ -120,7 +118,7 @@ module _ (s : List ℕ) (at : ℕ) (names : Names) (f : List Float) (top : ℕ) 
 -- ---- an expression
 
 module _ (s : List ℕ) (at depth : ℕ) (e : Ellipsoid) (names : Names) (f : List Float) (top : ℕ) (r : Evaluated) (g : List Float) where
-  pub evals-bad : Read.Bad ≡ place (read_expr depth s at) → EvalsWith s at depth e names f top r g
+  pub evals-bad : None ≡ place (read_expr depth s at) → EvalsWith s at depth e names f top r g
   evals-bad h = record { is = λ ps rd. record { is = λ x n k. not-read (read_expr depth s at) x n h k } }
 
   pub evals-leaf : (b : ℕ) → b ≡ get_or s at 0 → (b ≡ 40 → ⊥) → LeafWith s at names f top r g → EvalsWith s at depth e names f top r g

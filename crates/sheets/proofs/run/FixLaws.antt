@@ -33,7 +33,7 @@ use Rattle.sheets.proofs.rows.KindRowLaws.{words-agree}
 use Rattle.sheets.proofs.Members.{in_left, in_right, in_either}
 use Rattle.sheets.proofs.ApartLaws.{fixes-append}
 use Rattle.sheets.proofs.run.FloatLaws.{kept-value}
-use Rattle.sheets.proofs.run.ListedLaws.{at_most}
+use Rattle.sheets.proofs.check.NewestLaws.{at_most}
 
 -- ---- the lines of the lets, by their names' places
 

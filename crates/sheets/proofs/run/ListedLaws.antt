@@ -24,7 +24,7 @@ use Rattle.sheets.specs.code.check.Newest as Search
 use Rattle.sheets.specs.code.run.Slots.{empty_slot}
 use Rattle.sheets.specs.code.run.Floats.{float_at, position_at, value_at, Lies, KeptBelow}
 use Rattle.sheets.specs.code.run.Known.{word_found, reading_index, reading_found, found_at, SlotListed, Listed, Ready}
-use Rattle.sheets.proofs.check.NewestLaws.{newest-none, newest-more, place_is, by_place}
+use Rattle.sheets.proofs.check.NewestLaws.{newest-none, newest-more, place_is, by_place, at_most}
 use Rattle.sheets.proofs.run.FloatLaws.{kept-lies}
 use Rattle.sheets.proofs.run.KnownLaws.{get_or-inside}
 
@@ -37,16 +37,6 @@ listed_start t rs f lt lf h = record {
   reading = h;
   from = newest-none;
 }
-
--- a word's place is one of the first n
-pub at_most : (words : List ℕ) (c n : ℕ) → place_from words n c ≤ n
-unfolding place_from
-at_most words c zero = omega arith
-at_most words c (suc n) = go (eqb (get_or words (suc n) 0) c) (at_most words c n)
-  where
-    go : (b : Bool) → place_from words n c ≤ n → when b (suc n) (place_from words n c) ≤ suc n
-    go true m = omega arith
-    go false m = omega arith
 
 module _ (t : List Slot) (rs : List Float) (names : Names) (f : List Float) (n : ℕ) (h : Listed t rs names f n) where
   -- what lies below the place behind the last name is as it was

@@ -1,4 +1,5 @@
 -- The pieces of the run over the lines: a law for each way out of `put_readings`, `let_value` and `stopped`. Assumes nothing.
+use Rattle.std.specs.Prelude.{Option, Some, None}
 use Prim.Native.Nat.{ℕ, ◌+◌, ◌-◌, ◌<◌, ◌≤◌}
 use native.Mathlib.Omega.{arith}
 use mathlib.Core.Path.{◌≡◌, refl, sym, ap, subst, ◌∙◌}
@@ -15,7 +16,6 @@ use borrow.Author.Tests.{ltb-true, ltb-false}
 use Rattle.numbers.specs.Ops.{num}
 use Rattle.frames.specs.declared.Ellipsoid.{Ellipsoid}
 use Rattle.sheets.specs.declared.Value.{Value}
-use Rattle.sheets.specs.declared.reader.expr.Read.{Read}
 use Rattle.sheets.specs.declared.answers.RunAnswer.{RunAnswer}
 use Rattle.sheets.specs.declared.Evaluated.{Evaluated}
 use Rattle.sheets.specs.Trees.{let_line}
@@ -87,7 +87,7 @@ module _ (r : Evaluated) (i m : ℕ) (a : RunAnswer) where
 -- ---- what is left of a let
 
 module _ (s : List ℕ) (at : ℕ) (e : Ellipsoid) (names : Names) (f : List Float) (top : ℕ) (r : Evaluated) (g : List Float) (h : EvalsWith s at 11 e names f top r g) where
-  let_by : (q : Evaluated) → ((o : Out Value) (j n : ℕ) → r ≡ evaluated o j → closed s j ≡ Read.At n → q ≡ evaluated o n) → LetWith s at e names f top q g
+  let_by : (q : Evaluated) → ((o : Out Value) (j n : ℕ) → r ≡ evaluated o j → closed s j ≡ Some n → q ≡ evaluated o n) → LetWith s at e names f top q g
   unfolding rest
   let_by q k = record {
     is = λ ps rd w l n er.
@@ -100,12 +100,12 @@ module _ (s : List ℕ) (at : ℕ) (e : Ellipsoid) (names : Names) (f : List Flo
   pub let-not : NotIs r → LetWith s at e names f top r g
   let-not m = let_by r (λ o j n er et. not_at r o j n m er)
 
-  module _ (kind end : ℕ) (er : r ≡ Evaluated.Is kind end) (c : Read) (ec : c ≡ closed s end) where
-    let-end : (q : Evaluated) → ((n : ℕ) → closed s end ≡ Read.At n → q ≡ Evaluated.Is kind n) → LetWith s at e names f top q g
+  module _ (kind end : ℕ) (er : r ≡ Evaluated.Is kind end) (c : Option ℕ) (ec : c ≡ closed s end) where
+    let-end : (q : Evaluated) → ((n : ℕ) → closed s end ≡ Some n → q ≡ Evaluated.Is kind n) → LetWith s at e names f top q g
     unfolding evaluated
     let-end q k = let_by q go
       where
-        go : (o : Out Value) (j n : ℕ) → r ≡ evaluated o j → closed s j ≡ Read.At n → q ≡ evaluated o n
+        go : (o : Out Value) (j n : ℕ) → r ≡ evaluated o j → closed s j ≡ Some n → q ≡ evaluated o n
         go (goes fs v) j n e et =
             let i : end ≡ j = cc in
             let ik : kind ≡ kind_code (kind_of v) = cc in
@@ -113,8 +113,8 @@ module _ (s : List ℕ) (at : ℕ) (e : Ellipsoid) (names : Names) (f : List Flo
         go (stops fs x) j n e et = let z : ◌≡◌ {A = ℕ} 0 1 = cc in absurd (omega arith)
         go (sticks fs) j n e et = let z : ◌≡◌ {A = ℕ} 0 1 = cc in absurd (omega arith)
 
-    pub let-is : (next : ℕ) → c ≡ Read.At next → LetWith s at e names f top (Evaluated.Is kind next) g
+    pub let-is : (next : ℕ) → c ≡ Some next → LetWith s at e names f top (Evaluated.Is kind next) g
     let-is next en = let-end _ (λ n et. let i : next ≡ n = cc in ap (Evaluated.Is kind) i)
 
-    pub let-unended : c ≡ Read.Bad → (q : Evaluated) → LetWith s at e names f top q g
+    pub let-unended : c ≡ None → (q : Evaluated) → LetWith s at e names f top q g
     let-unended en q = let-end q (λ n et. let z : ◌≡◌ {A = ℕ} 0 1 = cc in absurd (omega arith))

@@ -1,4 +1,5 @@
 -- The run over the lines, a step at a time: a law for each way out of `run_lines` and each way round its loop. Assumes nothing.
+use Rattle.std.specs.Prelude.{Option, Some}
 use Prim.Native.Nat.{ℕ, ◌+◌, ◌*◌, ◌<◌, ◌≤◌}
 use native.Mathlib.Omega.{arith}
 use mathlib.Core.Path.{◌≡◌, refl, sym, ap, subst, ◌∙◌}
@@ -194,7 +195,7 @@ module _ {s : List ℕ} {e : Ellipsoid} {rs : List Float} {d : List ℕ} {h : St
 
     -- ---- a line that is read whole
 
-    module _ (head : LineHead) (eh : head ≡ line_head s h.at) (y : WholeLine) (next : ℕ) (is : head ≡ LineHead.Whole y next) (high : h.line ≤ 96)
+    module _ (head : Option LineHead) (eh : head ≡ line_head s h.at) (y : WholeLine) (next : ℕ) (is : head ≡ Some (LineHead.Whole y next)) (high : h.line ≤ 96)
         (c : ℕ) (hc : Names y c) (j : ℕ) (hj : Search.Placed h.names c j) (x : Slot) (r : Evaluated) (shown : Shown) (out : List ℕ) (hr : LineDoes s y j (get_or h.slots j x).value h.floats h.shown h.out h.written r shown out) where
       whole_here : (ls : List Line) (st : State) (now : Now s e rs d h ls st) (l : Line) (m : ℕ) → read_line s h.at ≡ got l m → (next ≡ m) × Comes h now.lets d st l r shown out
       whole_here ls st now l m el =

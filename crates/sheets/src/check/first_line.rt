@@ -7,7 +7,7 @@ ghost use Rattle.sheets.specs.Limits.{between};
 ghost use Rattle.sheets.specs.code.reader.Reader.{read_head};
 ghost use Rattle.sheets.specs.code.check.FirstLines.{first_in, first_of};
 
-use crate::reader::head::{HeadRead, head};
+use crate::reader::head::{HeadLine, head};
 use frames::Ellipsoid;
 use numbers::Length;
 
@@ -51,13 +51,12 @@ fn by_numbers(radius: f64, inverse: f64, next: usize) -> FirstLine
 pub fn first_line(s: &[u8]) -> FirstLine
     ensures { result ≡ first_of (read_head s.now) }
 {
-    let h = head(s);
-    match h {
-        HeadRead::Bad => FirstLine::Bad,
-        HeadRead::Wgs(next) => {
+    match head(s) {
+        None => FirstLine::Bad,
+        Some((HeadLine::Wgs84, next)) => {
             let e = Ellipsoid::wgs84();
             FirstLine::Is(e, next)
         }
-        HeadRead::Custom(radius, inverse, next) => by_numbers(radius, inverse, next),
+        Some((HeadLine::Custom(radius, inverse), next)) => by_numbers(radius, inverse, next),
     }
 }

@@ -1,6 +1,6 @@
 // The words given on the lines passed, each at a place counted from 1, and the search for a word among them, the newest first.
 ghost use Rattle.std.specs.Prelude.{◌≡◌, ◌≤◌};
-ghost use Rattle.sheets.specs.code.check.Newest.{no_names, with_name, newest_of, Placed};
+ghost use Rattle.sheets.specs.code.check.Newest.{no_names, with_name, newest_of, place_found};
 ghost use Rattle.sheets.specs.code.check.Walking.{reading_kind, kind_found};
 
 use crate::reader::words;
@@ -34,32 +34,31 @@ impl Names {
         self.newest[(code % 512) as usize] as usize
     }
 
-    // The place of the newest word with this code; 0 for none.
-    pub fn place(&self, code: u64) -> usize
-        ensures { Placed self.now code result }
+    // The place of the newest word with this code.
+    pub fn place(&self, code: u64) -> Option<usize>
+        ensures { result ≡ place_found self.now code }
     {
         let mut i = self.newest_of(code);
         if 95 < i {
-            return 0;
+            return None;
         }
         while 0 < i {
             if self.words[i] == code {
-                return i;
+                return Some(i);
             }
             i -= 1;
         }
-        0
+        None
     }
 
-    // The kind of the word with this code, 255 where it is unknown.
-    pub fn kind(&self, code: u64) -> u8
+    // The code of the kind of the word with this code, where it is known.
+    pub fn kind(&self, code: u64) -> Option<u8>
         ensures { result ≡ kind_found self.now code }
     {
-        let i = self.place(code);
-        if i == 0 {
+        let Some(i) = self.place(code) else {
             return reading_kind(code);
-        }
-        self.kinds[i]
+        };
+        Some(self.kinds[i])
     }
 
     // The word with this code is given at a place, with this kind.
@@ -73,21 +72,21 @@ impl Names {
     }
 }
 
-// A reading is n; 255 for a word that is no reading. The codes of r0 to r9 follow each other, and so do those of r10 to r15.
-fn reading_kind(code: u64) -> u8
+// A reading is n. The codes of r0 to r9 follow each other, and so do those of r10 to r15.
+fn reading_kind(code: u64) -> Option<u8>
     ensures { result ≡ reading_kind code }
 {
     if code < words::R0 {
-        return 255;
+        return None;
     }
     if code <= words::R9 {
-        return 0;
+        return Some(0);
     }
     if code < words::R10 {
-        return 255;
+        return None;
     }
     if code <= words::R15 {
-        return 0;
+        return Some(0);
     }
-    255
+    None
 }

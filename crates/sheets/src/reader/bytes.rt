@@ -5,13 +5,6 @@ ghost use Rattle.sheets.specs.code.reader.Codes.{letter, word_char, digit};
 ghost use Rattle.sheets.specs.code.reader.Reader.{read_word};
 ghost use Rattle.sheets.specs.code.reader.Views.{ByteAt, CharOf, stands_at, coded};
 
-// A word's code in base 37 and the place after it.
-#[derive(Clone, Copy)]
-pub enum WordRead {
-    Is(u64, usize),
-    Not,
-}
-
 // The byte at a place, 0 past the end.
 pub fn byte(s: &[u8], at: usize) -> u8
     ensures { ByteAt s.now at result }
@@ -94,14 +87,14 @@ fn word_limit(s: &[u8], at: usize) -> usize
     n
 }
 
-// The WORD at a place.
-pub fn word(s: &[u8], at: usize) -> WordRead
+// The WORD at a place: its code in base 37, and the place after it.
+pub fn word(s: &[u8], at: usize) -> Option<(u64, usize)>
     ensures { result ≡ coded (read_word s.now at) }
 {
     let b = byte(s, at);
     let first = letter(b);
     if first == 0 {
-        return WordRead::Not;
+        return None;
     }
     let mut code = first;
     let mut i = at + 1;
@@ -109,10 +102,10 @@ pub fn word(s: &[u8], at: usize) -> WordRead
     while i < end {
         let d = word_char(s[i]);
         if d == 0 {
-            return WordRead::Is(code, i);
+            return Some((code, i));
         }
         code = code * 37 + d;
         i += 1;
     }
-    WordRead::Is(code, i)
+    Some((code, i))
 }

@@ -1,22 +1,14 @@
-// The form pass over a whole sheet: every line is of the grammar, or the first that is not.
+// The form pass over a whole sheet: how many lines there are, or, as the error, the number of the first that is not of the grammar, 97 where there are more than 96.
 ghost use Rattle.std.specs.Prelude.{◌≡◌, ℕ, ◌-◌};
 ghost use Rattle.sheets.specs.LineNumbers.{line_number};
 ghost use Rattle.sheets.specs.code.reader.Reader.{read_lines, read_sheet};
 ghost use Rattle.sheets.specs.code.reader.Views.{lines_form, form_of};
 
-use crate::reader::expr::Read;
-use crate::reader::head::{HeadRead, head};
+use crate::reader::head::head;
 use crate::reader::lines::line_end;
 
-// How many lines there are, or the number of the first that is not of the grammar, 97 where there are more than 96.
-#[derive(Clone, Copy)]
-pub enum FormRead {
-    Fine(usize),
-    Bad(usize),
-}
-
 // The form pass over the lines from line `first` on, which stands at `start`. `number` is the number of the line at `at`, stepped at each LF.
-pub(crate) fn form_from(s: &[u8], start: usize, first: usize) -> FormRead
+pub(crate) fn form_from(s: &[u8], start: usize, first: usize) -> Result<usize, usize>
     requires { first ≡ line_number s.now start }
     ensures { (p : ℕ) → result ≡ lines_form first (read_lines (97 - first) first p s.now start) }
 {
@@ -24,26 +16,23 @@ pub(crate) fn form_from(s: &[u8], start: usize, first: usize) -> FormRead
     let mut number = first;
     while at < s.len() {
         if 96 < number {
-            return FormRead::Bad(number);
+            return Err(number);
         }
-        let r = line_end(s, at);
-        let Read::At(next) = r else {
-            return FormRead::Bad(number);
+        let Some(next) = line_end(s, at) else {
+            return Err(number);
         };
         at = next;
         number += 1;
     }
-    FormRead::Fine(number - 1)
+    Ok(number - 1)
 }
 
 // The form pass.
-pub fn form(s: &[u8]) -> FormRead
+pub fn form(s: &[u8]) -> Result<usize, usize>
     ensures { result ≡ form_of (read_sheet s.now) }
 {
-    let h = head(s);
-    match h {
-        HeadRead::Bad => FormRead::Bad(1),
-        HeadRead::Wgs(start) => form_from(s, start, 2),
-        HeadRead::Custom(_, _, start) => form_from(s, start, 2),
-    }
+    let Some((_, start)) = head(s) else {
+        return Err(1);
+    };
+    form_from(s, start, 2)
 }

@@ -3,9 +3,9 @@ ghost use Rattle.std.specs.Prelude.{◌≡◌, ◌+◌, leb};
 ghost use Rattle.sheets.specs.code.reader.Reader.{read_word, read_unsigned, opening, spaced, first, one, from_rows, whole_rows, read_line};
 ghost use Rattle.sheets.specs.code.reader.Views.{place, closed, short_end, coded, unsigned_double, named_at, head_told, bare_head, line_head};
 
-use crate::reader::bytes::{WordRead, byte, stands, word};
-use crate::reader::expr::{Read, expr};
-use crate::reader::num::{DoubleRead, unsigned};
+use crate::reader::bytes::{byte, stands, word};
+use crate::reader::expr::expr;
+use crate::reader::num::unsigned;
 use crate::reader::words;
 
 // A line's word: its code, and where it stands, from its first byte to the place after it.
@@ -14,13 +14,6 @@ pub struct NameAt {
     pub code: u64,
     pub from: usize,
     pub end: usize,
-}
-
-// A word, and the place after what was read with it.
-#[derive(Clone, Copy)]
-pub(crate) enum NameRead {
-    Is(NameAt, usize),
-    Not,
 }
 
 // A line that is read whole: which it is, with its word where it has one, or its NUM as a double.
@@ -36,167 +29,136 @@ pub enum WholeLine {
 pub enum LineHead {
     Let(NameAt, usize),
     Whole(WholeLine, usize),
-    Bad,
 }
 
-// `(` and a word.
-pub fn opening(s: &[u8], at: usize) -> WordRead
+// `(` and a word: its code, and the place after it.
+pub fn opening(s: &[u8], at: usize) -> Option<(u64, usize)>
     ensures { result ≡ coded (opening s.now at) }
 {
     let b = byte(s, at);
-    if b == 40 {
+    if b == b'(' {
         return word(s, at + 1);
     }
-    WordRead::Not
+    None
 }
 
 // The same: `(show ` and `(let ` are known by their bytes, which is quicker than by the word's code; any other word is read.
-fn line_word(s: &[u8], at: usize) -> WordRead
+fn line_word(s: &[u8], at: usize) -> Option<(u64, usize)>
     ensures { result ≡ coded (opening s.now at) }
 {
     if stands(s, at, b"(show ") {
-        return WordRead::Is(words::SHOW, at + 5);
+        return Some((words::SHOW, at + 5));
     }
     if stands(s, at, b"(let ") {
-        return WordRead::Is(words::LET, at + 4);
+        return Some((words::LET, at + 4));
     }
     opening(s, at)
 }
 
 // A space and a word.
-pub(crate) fn word_slot(s: &[u8], at: usize) -> WordRead
+pub(crate) fn word_slot(s: &[u8], at: usize) -> Option<(u64, usize)>
     ensures { result ≡ coded (spaced (read_word s.now) s.now at) }
 {
     let b = byte(s, at);
-    if b == 32 {
+    if b == b' ' {
         return word(s, at + 1);
     }
-    WordRead::Not
+    None
 }
 
-// `)` and LF.
-pub(crate) fn closing(s: &[u8], at: usize) -> Read
+// `)` and LF: the place after them.
+pub(crate) fn closing(s: &[u8], at: usize) -> Option<usize>
     ensures { result ≡ closed s.now at }
 {
     let b = byte(s, at);
-    if b == 41 {
+    if b == b')' {
         let c = byte(s, at + 1);
-        if c == 10 {
-            return Read::At(at + 2);
+        if c == b'\n' {
+            return Some(at + 2);
         }
     }
-    Read::Bad
+    None
 }
 
-// A space, a word, and the end of the line.
-pub(crate) fn one_word(s: &[u8], at: usize) -> NameRead
+// A space, a word, and the end of the line: the word, and the place of the next line.
+pub(crate) fn one_word(s: &[u8], at: usize) -> Option<(NameAt, usize)>
     ensures { result ≡ named_at (at + 1) (one read_word (λ w. w) s.now at) }
 {
-    let w = word_slot(s, at);
-    let WordRead::Is(code, n) = w else {
-        return NameRead::Not;
-    };
-    let c = closing(s, n);
-    let Read::At(next) = c else {
-        return NameRead::Not;
-    };
+    let (code, n) = word_slot(s, at)?;
+    let next = closing(s, n)?;
     let name = NameAt {
         code,
         from: at + 1,
         end: n,
     };
-    NameRead::Is(name, next)
+    Some((name, next))
 }
 
-// A space, a word, and the space before the next part.
-fn first_word(s: &[u8], at: usize) -> NameRead
+// A space, a word, and the space before the next part: the word, and the place of that part.
+fn first_word(s: &[u8], at: usize) -> Option<(NameAt, usize)>
     ensures { result ≡ named_at (at + 1) (first read_word (λ w. w) s.now at) }
 {
-    let w = word_slot(s, at);
-    let WordRead::Is(code, n) = w else {
-        return NameRead::Not;
-    };
+    let (code, n) = word_slot(s, at)?;
     let b = byte(s, n);
-    if b == 32 {
+    if b == b' ' {
         let name = NameAt {
             code,
             from: at + 1,
             end: n,
         };
-        return NameRead::Is(name, n + 1);
+        return Some((name, n + 1));
     }
-    NameRead::Not
+    None
 }
 
 // A space, a NUM without a minus, and the end of the line: the NUM as a double, and the place of the next line.
-fn one_unsigned(s: &[u8], at: usize) -> DoubleRead
+fn one_unsigned(s: &[u8], at: usize) -> Option<(f64, usize)>
     ensures { result ≡ unsigned_double (one read_unsigned (λ q. q) s.now at) }
 {
     let b = byte(s, at);
-    if b == 32 {
-        let q = unsigned(s, at + 1);
-        let DoubleRead::Is(x, n) = q else {
-            return DoubleRead::Not;
-        };
-        let c = closing(s, n);
-        return match c {
-            Read::At(next) => DoubleRead::Is(x, next),
-            Read::Bad => DoubleRead::Not,
-        };
+    if b == b' ' {
+        let (x, n) = unsigned(s, at + 1)?;
+        let next = closing(s, n)?;
+        return Some((x, next));
     }
-    DoubleRead::Not
+    None
 }
 
 // A line without parts, from the place after the word that opens it.
-fn bare(s: &[u8], at: usize, line: WholeLine) -> LineHead
+fn bare(s: &[u8], at: usize, line: WholeLine) -> Option<LineHead>
     ensures { result ≡ bare_head line (closed s.now at) }
 {
-    let c = closing(s, at);
-    match c {
-        Read::At(next) => LineHead::Whole(line, next),
-        Read::Bad => LineHead::Bad,
-    }
+    let next = closing(s, at)?;
+    Some(LineHead::Whole(line, next))
 }
 
 // A line that is read whole, by the code of the word that opens it, and from the place after that word.
-fn whole_head(s: &[u8], code: u64, at: usize) -> LineHead
+fn whole_head(s: &[u8], code: u64, at: usize) -> Option<LineHead>
     ensures { result ≡ head_told at (from_rows whole_rows code s.now at) }
 {
     match code {
         words::SHOW => {
-            let r = one_word(s, at);
-            match r {
-                NameRead::Is(name, next) => LineHead::Whole(WholeLine::Show(name), next),
-                NameRead::Not => LineHead::Bad,
-            }
+            let (name, next) = one_word(s, at)?;
+            Some(LineHead::Whole(WholeLine::Show(name), next))
         }
         words::TOTAL => bare(s, at, WholeLine::Total),
         words::APART => {
-            let r = one_unsigned(s, at);
-            match r {
-                DoubleRead::Is(least, next) => LineHead::Whole(WholeLine::Apart(least), next),
-                DoubleRead::Not => LineHead::Bad,
-            }
+            let (least, next) = one_unsigned(s, at)?;
+            Some(LineHead::Whole(WholeLine::Apart(least), next))
         }
-        _ => LineHead::Bad,
+        _ => None,
     }
 }
 
 // Which line stands at a place, by the word that opens it.
-pub fn line_head(s: &[u8], at: usize) -> LineHead
+pub fn line_head(s: &[u8], at: usize) -> Option<LineHead>
     ensures { result ≡ line_head s.now at }
 {
-    let k = line_word(s, at);
-    let WordRead::Is(code, n) = k else {
-        return LineHead::Bad;
-    };
+    let (code, n) = line_word(s, at)?;
     match code {
         words::LET => {
-            let r = first_word(s, n);
-            match r {
-                NameRead::Is(name, value) => LineHead::Let(name, value),
-                NameRead::Not => LineHead::Bad,
-            }
+            let (name, value) = first_word(s, n)?;
+            Some(LineHead::Let(name, value))
         }
         _ => whole_head(s, code, n),
     }
@@ -213,32 +175,25 @@ pub(crate) fn is_short(at: usize, next: usize) -> bool
 }
 
 // The end of a line of at most 200 bytes. A line that is read whole never has more, and is tested as every line is.
-fn short_end(at: usize, next: usize) -> Read
+fn short_end(at: usize, next: usize) -> Option<usize>
     ensures { result ≡ short_end at next }
 {
     if is_short(at, next) {
-        return Read::At(next);
+        return Some(next);
     }
-    Read::Bad
+    None
 }
 
 // The place after the line at a place.
-pub fn line_end(s: &[u8], at: usize) -> Read
+pub fn line_end(s: &[u8], at: usize) -> Option<usize>
     ensures { result ≡ place (read_line s.now at) }
 {
-    let h = line_head(s, at);
+    let h = line_head(s, at)?;
     match h {
-        LineHead::Bad => Read::Bad,
         LineHead::Whole(_, next) => short_end(at, next),
         LineHead::Let(_, value) => {
-            let x = expr(s, value, 11);
-            let Read::At(n) = x else {
-                return Read::Bad;
-            };
-            let c = closing(s, n);
-            let Read::At(next) = c else {
-                return Read::Bad;
-            };
+            let n = expr(s, value, 11)?;
+            let next = closing(s, n)?;
             short_end(at, next)
         }
     }

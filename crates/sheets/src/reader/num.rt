@@ -24,19 +24,6 @@ pub struct Numeral {
     pub end: usize,
 }
 
-#[derive(Clone, Copy)]
-pub enum NumRead {
-    Is(Numeral),
-    Not,
-}
-
-// The double of a NUM, and the place after it.
-#[derive(Clone, Copy)]
-pub enum DoubleRead {
-    Is(f64, usize),
-    Not,
-}
-
 // The digits at a place, at most `most`; `before` is the number that the digits before them made.
 fn digits(s: &[u8], at: usize, most: usize, before: u64) -> DigitsRead
     requires { (most ≤ 9) × (before < 1000000000) }
@@ -69,28 +56,28 @@ fn digits(s: &[u8], at: usize, most: usize, before: u64) -> DigitsRead
 }
 
 // What follows the sign, or the NUM where there is none: digits, and perhaps a point and digits behind it.
-fn num_whole(s: &[u8], minus: bool, at: usize) -> NumRead
+fn num_whole(s: &[u8], minus: bool, at: usize) -> Option<Numeral>
     ensures { result ≡ counted (read_whole minus s.now at) }
 {
     let d = digits(s, at, 9, 0);
     if d.count == 0 {
-        return NumRead::Not;
+        return None;
     }
     let end = d.end;
     let b = byte(s, end);
-    if b == 46 {
+    if b == b'.' {
         let f = digits(s, end + 1, 6, d.value);
         if f.count == 0 {
-            return NumRead::Not;
+            return None;
         }
-        return NumRead::Is(Numeral {
+        return Some(Numeral {
             minus,
             digits: f.value,
             behind: f.count,
             end: f.end,
         });
     }
-    NumRead::Is(Numeral {
+    Some(Numeral {
         minus,
         digits: d.value,
         behind: 0,
@@ -99,11 +86,11 @@ fn num_whole(s: &[u8], minus: bool, at: usize) -> NumRead
 }
 
 // The NUM at a place.
-pub fn num(s: &[u8], at: usize) -> NumRead
+pub fn num(s: &[u8], at: usize) -> Option<Numeral>
     ensures { result ≡ counted (read_num s.now at) }
 {
     let b = byte(s, at);
-    if b == 45 {
+    if b == b'-' {
         return num_whole(s, true, at + 1);
     }
     num_whole(s, false, at)
@@ -123,26 +110,22 @@ fn tens(behind: usize) -> u64
     value
 }
 
-// The NUM at a place as a double, the nearest to it.
-pub fn double(s: &[u8], at: usize) -> DoubleRead
+// The NUM at a place as a double, the nearest to it, and the place after it.
+pub fn double(s: &[u8], at: usize) -> Option<(f64, usize)>
     ensures { result ≡ doubled (read_num s.now at) }
 {
-    let q = num(s, at);
-    let NumRead::Is(x) = q else {
-        return DoubleRead::Not;
-    };
-    let t = tens(x.behind);
-    let v = decimal(x.minus, x.digits, t);
-    DoubleRead::Is(v, x.end)
+    let x = num(s, at)?;
+    let v = decimal(x.minus, x.digits, tens(x.behind));
+    Some((v, x.end))
 }
 
 // The same of a NUM without a minus; one that has it is not read.
-pub fn unsigned(s: &[u8], at: usize) -> DoubleRead
+pub fn unsigned(s: &[u8], at: usize) -> Option<(f64, usize)>
     ensures { result ≡ unsigned_double (read_unsigned s.now at) }
 {
     let sign = byte(s, at);
-    if sign == 45 {
-        return DoubleRead::Not;
+    if sign == b'-' {
+        return None;
     }
     double(s, at)
 }

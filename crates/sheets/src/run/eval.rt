@@ -7,8 +7,8 @@ ghost use Rattle.sheets.specs.code.run.Evaluating.{KnownWith, LeafWith, EvalsWit
 
 use crate::Evaluated;
 use crate::check::names::Names;
-use crate::reader::bytes::{WordRead, byte, word};
-use crate::reader::num::{DoubleRead, double};
+use crate::reader::bytes::{byte, word};
+use crate::reader::num::double;
 use crate::run::apply::apply;
 use crate::run::floats::copy_floats;
 use crate::run::laid::tested;
@@ -20,15 +20,14 @@ fn known(code: u64, end: usize, names: &Names, floats: &mut [f64; 2940], top: us
     requires { top + 21 ≤ 2940 }
     ensures { KnownWith code end names.now floats.old top result floats.new }
 {
-    let j = names.place(code);
-    if j == 0 {
+    let Some(j) = names.place(code) else {
         let i = reading_index(code);
         if 16 <= i {
             return Evaluated::Sticks;
         }
         floats[top] = floats[i];
         return tested(0, floats, top, end);
-    }
+    };
     let kind = names.kinds[j];
     copy_floats(floats, 21 * j, top);
     tested(kind, floats, top, end)
@@ -41,15 +40,15 @@ fn leaf(s: &[u8], at: usize, names: &Names, floats: &mut [f64; 2940], top: usize
 {
     let w = word(s, at);
     match w {
-        WordRead::Is(code, end) => known(code, end, names, floats, top),
-        WordRead::Not => {
+        Some((code, end)) => known(code, end, names, floats, top),
+        None => {
             let q = double(s, at);
             match q {
-                DoubleRead::Is(x, end) => {
+                Some((x, end)) => {
                     floats[top] = x;
                     tested(0, floats, top, end)
                 }
-                DoubleRead::Not => Evaluated::Sticks,
+                None => Evaluated::Sticks,
             }
         }
     }
@@ -75,7 +74,7 @@ pub fn eval(
             return Evaluated::Sticks;
         }
         let w = word(s, at + 1);
-        let WordRead::Is(code, start) = w else {
+        let Some((code, start)) = w else {
             return Evaluated::Sticks;
         };
         return bracket(s, start, depth - 1, e, code, names, floats, top);

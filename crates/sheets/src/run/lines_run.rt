@@ -6,7 +6,6 @@ ghost use Rattle.sheets.specs.code.run.Running.{LetWith, GivenAt, stopped_at, Ru
 use crate::Evaluated;
 use crate::answers::{RunAnswer, run_answer};
 use crate::check::names::Names;
-use crate::reader::expr::Read;
 use crate::reader::lines::{LineHead, NameAt, closing, line_head};
 use crate::rows::value::{Slot, empty_slot};
 use crate::run::eval::eval;
@@ -34,8 +33,8 @@ fn let_value(
     };
     let c = closing(s, end);
     match c {
-        Read::At(next) => Evaluated::Is(kind, next),
-        Read::Bad => Evaluated::Sticks,
+        Some(next) => Evaluated::Is(kind, next),
+        None => Evaluated::Sticks,
     }
 }
 
@@ -79,8 +78,8 @@ pub fn run_lines(s: &[u8], from: usize, e: Ellipsoid, readings: &[f64], out: &mu
     while line < 96 && at < s.len() {
         line += 1;
         match line_head(s, at) {
-            LineHead::Bad => return run_answer(0, line, written),
-            LineHead::Let(name, value) => {
+            None => return run_answer(0, line, written),
+            Some(LineHead::Let(name, value)) => {
                 n += 1;
                 let r = let_value(s, value, e, &names, &mut floats, 21 * n);
                 let Evaluated::Is(kind, next) = r else {
@@ -89,8 +88,8 @@ pub fn run_lines(s: &[u8], from: usize, e: Ellipsoid, readings: &[f64], out: &mu
                 t[n] = give(name, kind, n, &floats, &mut names);
                 at = next;
             }
-            LineHead::Whole(w, next) => {
-                let j = names.place(named(w));
+            Some(LineHead::Whole(w, next)) => {
+                let j = names.place(named(w)).unwrap_or(0);
                 match whole_line(s, w, j, t[j], &floats, &mut shown, out, written) {
                     Evaluated::Is(_, count) => written = count,
                     r => return stopped(r, line, written),

@@ -4,7 +4,7 @@ use native.Mathlib.Numerals.{add-one}
 use native.Mathlib.Nat.{pow-suc, pow-le-pow_right}
 use Prim.Native.Nat.{ℕ, ◌+◌, ◌-◌, ◌*◌, ◌^◌, ◌<◌, ◌≤◌}
 use mathlib.Core.Path.{◌≡◌, ap, ap₂, ◌∙◌}
-use Rattle.sheets.specs.declared.reader.num.DoubleRead.{DoubleRead}
+use Rattle.std.specs.Prelude.{Some}
 use Rattle.boresheet.specs.code.Readings.{hex_from, hex_at}
 use Rattle.boresheet.proofs.ReadingSteps.{hex-stop, hex-turn, hex-end}
 use Rattle.boresheet.proofs.hex.hex.Goals as goal
@@ -49,5 +49,5 @@ loop-i-preserved c =
 pub returns : goal.returns
 returns c =
     let place : c.args.at + 16 ≡ c.args.at + c.loop-i.i = omega arith in
-    ap (λ n. DoubleRead.Is c.double-x.result n) place
+    ap (λ n. Some (c.double-x.result, n)) place
     ∙ hex-end _ c.loop-i.bits (c.args.at + c.loop-i.i) (16 - c.loop-i.i) _ _ (omega arith) c.double-x.ensures c.loop-i.invariant.2

@@ -2,8 +2,8 @@
 use Rattle.boresheet.proofs.ReadingSteps.{reading-number, reading-hex}
 use Rattle.boresheet.proofs.readings.reading.Goals as goal
 
-pub returns-in-Is : goal.returns-in-Is
-returns-in-Is c = reading-number _ _ _ _ c.double-d.ensures c.ended-r.ensures _ _ c.in-Is.is
+pub returns-in-Some : goal.returns-in-Some
+returns-in-Some c = reading-number _ _ _ _ c.double.ensures c.ended.ensures _ _ c.in-Some.is
 
-pub returns-in-Not : goal.returns-in-Not
-returns-in-Not c = reading-hex _ _ _ _ c.double-d.ensures c.ended-r.ensures _ _ c.in-Not.is c.hex-h.ensures c.ended.ensures
+pub returns-in-None : goal.returns-in-None
+returns-in-None c = reading-hex _ _ _ _ c.double.ensures c.ended.ensures _ _ c.in-None.is c.hex.ensures c.ended-in-None.ensures

@@ -20,12 +20,12 @@ returns-then-s-at c =
 pub returns-in_default : goal.returns-in_default
 returns-in_default c =
     let v = c.loop-i.invariant in
-    file-bad _ _ c.loop-i.i _ v.0 (omega arith) _ v.1 (omega arith) c.if-s-at.false _ c.reading-r.ensures c.in_default.is
+    file-bad _ _ c.loop-i.i _ v.0 (omega arith) _ v.1 (omega arith) c.if-s-at.false _ c.reading.ensures c.in_default.is
 
 pub loop-i-preserved : goal.loop-i-preserved
 loop-i-preserved c =
     let v = c.loop-i.invariant in
-    (simp length-set v.0, file-turn _ _ c.loop-i.i _ v.0 (omega arith) _ v.1 (omega arith) c.if-s-at.false _ c.reading-r.ensures _ _ c.in-Is.is, reading-next _ _ _ c.reading-r.ensures _ _ c.in-Is.is _ v.2)
+    (simp length-set v.0, file-turn _ _ c.loop-i.i _ v.0 (omega arith) _ v.1 (omega arith) c.if-s-at.false _ c.reading.ensures _ _ c.in-Some.is, reading-next _ _ _ c.reading.ensures _ _ c.in-Some.is _ v.2)
 
 pub returns-then-at-s : goal.returns-then-at-s
 returns-then-at-s c =

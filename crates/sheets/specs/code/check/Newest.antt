@@ -1,6 +1,6 @@
 -- The search for a word among those given, the newest first. `words` lists their codes, each at its place, counted from 1.
 -- No part of what must be believed: the newest place for each remainder of the words' codes by 512 only spares the search places at which the word cannot stand.
-use Rattle.std.specs.Prelude.{ℕ, zero, suc, ◌%◌, ◌<◌, ◌≤◌, ◌≡◌, List, eqb, leb, length, get_or, set, replicate}
+use Rattle.std.specs.Prelude.{ℕ, zero, suc, ◌%◌, ◌<◌, ◌≤◌, ◌≡◌, List, Option, Some, None, eqb, leb, length, get_or, set, replicate}
 use Rattle.sheets.specs.Table.{when}
 use Rattle.sheets.specs.declared.check.names.Names.{Names}
 
@@ -32,7 +32,16 @@ unfoldable pub place_from : List ℕ → ℕ → ℕ → ℕ
 place_from words zero c = 0
 place_from words (suc n) c = when (eqb (get_or words (suc n) 0) c) (suc n) (place_from words n c)
 
--- r is the place of the word with this code
+-- that place, where there is one
+abbrev pub as_place : ℕ → Option ℕ
+as_place zero = None
+as_place (suc n) = Some (suc n)
+
+-- the place of the word with this code
+unfoldable pub place_found : Names → ℕ → Option ℕ
+place_found names c = as_place (place_from names.words (search_from names c) c)
+
+-- r is the place of the word with this code, 0 for none
 pub record Placed (names : Names) (c r : ℕ) : Type 0 where
   pub most : r ≤ 95
   pub is : r ≡ place_from names.words (search_from names c) c

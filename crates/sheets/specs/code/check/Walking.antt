@@ -1,6 +1,7 @@
 -- What the pieces of the check answer, said of the walk of Check.antt over what the reader of Reader.antt reads.
 -- No part of what must be believed: they only tie the code to the definitions.
-use Rattle.std.specs.Prelude.{ℕ, zero, suc, ◌+◌, ◌≤◌, ◌≡◌, Bool, List, [], ◌∷◌, map, eqb, leb, length, get_or, take}
+use Rattle.std.specs.Prelude.{ℕ, zero, suc, ◌+◌, ◌≤◌, ◌≡◌, Bool, List, [], ◌∷◌, map, eqb, leb, length, get_or, take, Option, Some, None, Result, Ok, Err}
+use Rattle.std.proofs.Math.Option.{Option as Maybe, none, some}
 use mir.Val.{has_key}
 use Rattle.frames.specs.declared.Ellipsoid.{Ellipsoid}
 use Rattle.sheets.specs.Text.{Word}
@@ -14,38 +15,42 @@ use Rattle.sheets.specs.Table.{when}
 use Rattle.sheets.specs.Names.{Known, lookup, barred, reading_words}
 use Rattle.sheets.specs.code.check.Newest.{search_from, Newest}
 use Rattle.sheets.specs.declared.check.names.Names.{Names}
-use Rattle.sheets.specs.code.rows.KindCodes.{key_from, kind_or_255}
+use Rattle.sheets.specs.code.rows.KindCodes.{key_from}
 use Rattle.sheets.specs.Scopes.{Scope}
-use Rattle.sheets.specs.Refusals.{Refusal, form, fault, refusal_number, Checked, fine, bad}
+use Rattle.sheets.specs.Refusals.{Refusal, form, fault, Checked, fine, bad}
+use Rattle.sheets.specs.code.Refusals.{code_for}
+use Rattle.sheets.specs.declared.refusals.Refusal.{Refusal as Code}
+use Rattle.sheets.specs.declared.refusals.Refused.{Refused}
 use Rattle.sheets.specs.Check.{kind_of_expr, kinds_of_exprs, lineᶜ, Walked, passes, refuses, stepsᶜ, startᶜ}
 use Rattle.sheets.specs.Machine.{surface}
 use Rattle.sheets.specs.Answers.{Verdict, admitted, refused}
 use Rattle.sheets.specs.declared.reader.lines.WholeLine.{WholeLine}
-use Rattle.sheets.specs.declared.reader.form.FormRead.{FormRead}
-use Rattle.sheets.specs.declared.check.kind_walk.KindRead.{KindRead}
-use Rattle.sheets.specs.declared.check.kind_walk.KeyRead.{KeyRead}
 use Rattle.sheets.specs.declared.check.admit.LineKind.{LineKind}
-use Rattle.sheets.specs.declared.check.admit.Outcome.{Outcome}
 use Rattle.sheets.specs.declared.check.admit.Admission.{Admission}
 
 -- ---- the words of the lines passed: line i + 1 has the word with the code at the place i, of the kind with the code there
 
--- the kind code of a reading by its word's code; 255 for none
-unfoldable pub reading_kind : ℕ → ℕ
-reading_kind c = when (has_key (map code_of reading_words) c) 0 255
+-- a kind's code, where there is a kind
+abbrev pub code_if : Maybe Kind → Option ℕ
+code_if none = None
+code_if (some k) = Some (kind_code k)
 
--- the kind code of the word with this code by the lines after line 1, the newest first, and then the readings; 255 where it is unknown
-unfoldable pub kind_from : Names → ℕ → ℕ → ℕ
+-- the kind code of a reading by its word's code
+unfoldable pub reading_kind : ℕ → Option ℕ
+reading_kind c = when (has_key (map code_of reading_words) c) (Some 0) None
+
+-- the kind code of the word with this code by the lines after line 1, the newest first, and then the readings
+unfoldable pub kind_from : Names → ℕ → ℕ → Option ℕ
 kind_from names zero c = reading_kind c
-kind_from names (suc n) c = when (eqb (get_or names.words (suc n) 0) c) (get_or names.kinds (suc n) 0) (kind_from names n c)
+kind_from names (suc n) c = when (eqb (get_or names.words (suc n) 0) c) (Some (get_or names.kinds (suc n) 0)) (kind_from names n c)
 
-unfoldable pub kind_found : Names → ℕ → ℕ
+unfoldable pub kind_found : Names → ℕ → Option ℕ
 kind_found names c = kind_from names (search_from names c) c
 
 -- so many lines passed stand for the known words ps
 pub record Stands (names : Names) (passed : ℕ) (ps : Known Kind) : Type 0 where
   pub from : Newest names passed
-  pub is : (w : Word) → IsWord w → kind_from names passed (code_of w) ≡ kind_or_255 (lookup w ps)
+  pub is : (w : Word) → IsWord w → kind_from names passed (code_of w) ≡ code_if (lookup w ps)
 
 abbrev pub Standing : Names → Known Kind → Type 0
 Standing names ps = (passed : ℕ) × Stands names passed ps
@@ -55,29 +60,29 @@ pub record ForKnown (names : Names) (P : Known Kind → Type 0) : Type 0 where
 
 -- ---- expressions
 
--- a kind's code and the place after the expression, or the refusal's number
-unfoldable pub kind_said : Checked Kind → ℕ → KindRead
-kind_said (fine k) n = KindRead.Is (kind_code k) n
-kind_said (bad f) n = KindRead.Refused (refusal_number (fault f))
+-- a kind's code and the place after the expression, or the refusal
+unfoldable pub kind_said : Checked Kind → ℕ → Result (ℕ × ℕ) Code
+kind_said (fine k) n = Ok (kind_code k, n)
+kind_said (bad f) n = Err (code_for (fault f))
 
 -- r answers the expression that the reader reads at a place, and refuses where it reads none
-pub record ExprHas (s : List ℕ) (at depth : ℕ) (ps : Known Kind) (r : KindRead) : Type 0 where
+pub record ExprHas (s : List ℕ) (at depth : ℕ) (ps : Known Kind) (r : Result (ℕ × ℕ) Code) : Type 0 where
   pub is : (x : Expr) (n : ℕ) → read_expr depth s at ≡ got x n → r ≡ kind_said (kind_of_expr x ps) n
-  pub read : (k n : ℕ) → r ≡ KindRead.Is k n → (x : Expr) × (read_expr depth s at ≡ got x n)
+  pub read : (k n : ℕ) → r ≡ Ok (k, n) → (x : Expr) × (read_expr depth s at ≡ got x n)
 
 -- the same where no bracket stands
-pub record LeafHas (s : List ℕ) (at : ℕ) (ps : Known Kind) (r : KindRead) : Type 0 where
+pub record LeafHas (s : List ℕ) (at : ℕ) (ps : Known Kind) (r : Result (ℕ × ℕ) Code) : Type 0 where
   pub is : (get_or s at 0 ≡ 40 → ⊥) → (depth : ℕ) → ExprHas s at depth ps r
 
 -- the key of the kinds, after those that made `key`
-unfoldable pub key_said : ℕ → Checked (List Kind) → ℕ → KeyRead
-key_said key (fine ks) n = KeyRead.Is (key_from key ks) n
-key_said key (bad f) n = KeyRead.Refused (refusal_number (fault f))
+unfoldable pub key_said : ℕ → Checked (List Kind) → ℕ → Result (ℕ × ℕ) Code
+key_said key (fine ks) n = Ok (key_from key ks, n)
+key_said key (bad f) n = Err (code_for (fault f))
 
 -- r answers the arguments that the reader reads at a place, at most `left`, and refuses where it reads none
-pub record ArgsHave (s : List ℕ) (at depth left key : ℕ) (ps : Known Kind) (r : KeyRead) : Type 0 where
+pub record ArgsHave (s : List ℕ) (at depth left key : ℕ) (ps : Known Kind) (r : Result (ℕ × ℕ) Code) : Type 0 where
   pub is : (xs : Exprs) (n : ℕ) → read_args (read_expr depth s) left s at ≡ got xs n → r ≡ key_said key (kinds_of_exprs xs ps) n
-  pub read : (k n : ℕ) → r ≡ KeyRead.Is k n → (xs : Exprs) × (read_args (read_expr depth s) left s at ≡ got xs n)
+  pub read : (k n : ℕ) → r ≡ Ok (k, n) → (xs : Exprs) × (read_args (read_expr depth s) left s at ≡ got xs n)
 
 -- ---- lines
 
@@ -92,28 +97,28 @@ line_word (apart_line q) = []
 pub record ForScope (names : Names) (P : ℕ → Scope Kind → Type 0) : Type 0 where
   pub is : (i : ℕ) (c : Scope Kind) → Standing names c.known → P i c
 
--- the code of the line's word, its kind code and the place of the next line, or the refusal's number
-unfoldable pub line_said : Word → Checked (ℕ × Scope Kind) → ℕ → LineKind
-line_said w (fine p) n = LineKind.Is (code_of w) p.0 n
-line_said w (bad f) n = LineKind.Refused (refusal_number (fault f))
+-- the code of the line's word, its kind code and the place of the next line, or the refusal
+unfoldable pub line_said : Word → Checked (ℕ × Scope Kind) → ℕ → Result LineKind Code
+line_said w (fine p) n = Ok (record { code = code_of w; kind = p.0; next = n })
+line_said w (bad f) n = Err (code_for (fault f))
 
 -- r answers the line that the reader reads, and refuses where it reads none
-pub record LineHas (o : Got Line) (i : ℕ) (c : Scope Kind) (r : LineKind) : Type 0 where
+pub record LineHas (o : Got Line) (i : ℕ) (c : Scope Kind) (r : Result LineKind Code) : Type 0 where
   pub is : (l : Line) (n : ℕ) → o ≡ got l n → r ≡ line_said (line_word l) (lineᶜ i c l) n
-  pub read : (w k n : ℕ) → r ≡ LineKind.Is w k n → (l : Line) × (o ≡ got l n)
+  pub read : (q : LineKind) → r ≡ Ok q → (l : Line) × (o ≡ got l q.next)
 
 -- r answers what the reader reads of a line whose word, of this code, it has read
-pub record WordHas (code : ℕ) (o : Word → Got Line) (i : ℕ) (c : Scope Kind) (r : LineKind) : Type 0 where
+pub record WordHas (code : ℕ) (o : Word → Got Line) (i : ℕ) (c : Scope Kind) (r : Result LineKind Code) : Type 0 where
   pub is : (w : Word) → IsWord w → code_of w ≡ code → LineHas (o w) i c r
 
 -- r answers a line that is read whole, where the next one stands at `next`
-pub record WholeHas (line : WholeLine) (next i : ℕ) (c : Scope Kind) (r : LineKind) : Type 0 where
+pub record WholeHas (line : WholeLine) (next i : ℕ) (c : Scope Kind) (r : Result LineKind Code) : Type 0 where
   pub is : (s : List ℕ) (l : Line) → WholeIn s line l → LineHas (got l next) i c r
 
 -- refusal 3 for a line at a place that has more than 200 bytes
-unfoldable pub short_kind : ℕ → LineKind → LineKind
-short_kind at (LineKind.Refused number) = LineKind.Refused number
-short_kind at (LineKind.Is c k n) = when (leb n (at + 200)) (LineKind.Is c k n) (LineKind.Refused 3)
+unfoldable pub short_kind : ℕ → Result LineKind Code → Result LineKind Code
+short_kind at (Err f) = Err f
+short_kind at (Ok q) = when (leb q.next (at + 200)) (Ok q) (Err Code.Form)
 
 -- r tells whether the word with this code cannot be given
 pub record BarredWord (code : ℕ) (ps : Known Kind) (r : Bool) : Type 0 where
@@ -121,29 +126,33 @@ pub record BarredWord (code : ℕ) (ps : Known Kind) (r : Bool) : Type 0 where
 
 -- ---- a sheet
 
+-- what a sheet is answered
+abbrev pub Outcome : Type 0
+Outcome = Result Admission Refused
+
 -- as many lines as kind codes, this ellipsoid and this place of line 2; and these codes
-abbrev pub Passing : List ℕ → Ellipsoid → ℕ → Admission → Type 0
-Passing cs e at a = (a.outcome ≡ Outcome.Passes (length cs) e at) × (length cs ≤ 96) × (take (length cs) a.codes ≡ cs)
+abbrev pub Passing : List ℕ → Ellipsoid → ℕ → Outcome → Type 0
+Passing cs e at a = (codes : List ℕ) × (a ≡ Ok (record { lines = length cs; ellipsoid = e; start = at; codes = codes })) × (length cs ≤ 96) × (take (length cs) codes ≡ cs)
 
--- the refusal's number and its line
-abbrev pub Refusing : Refusal → ℕ → Admission → Type 0
-Refusing f j a = a.outcome ≡ Outcome.Refuses (refusal_number f) j
+-- the refusal and its line
+abbrev pub Refusing : Refusal → ℕ → Outcome → Type 0
+Refusing f j a = a ≡ Err (record { refusal = code_for f; line = j })
 
-unfoldable pub Walks : Walked → Ellipsoid → ℕ → Admission → Type 0
+unfoldable pub Walks : Walked → Ellipsoid → ℕ → Outcome → Type 0
 Walks (passes cs) e at a = Passing (255 ∷ cs) e at a
 Walks (refuses f j) e at a = Refusing (fault f) j a
 
 -- a answers the lines from line 2, which stands at this place, by what the reader makes of them
-unfoldable pub LinesWalk : Form (List Line) → Ellipsoid → ℕ → Admission → Type 0
+unfoldable pub LinesWalk : Form (List Line) → Ellipsoid → ℕ → Outcome → Type 0
 LinesWalk (formed ls) e at a = Walks (stepsᶜ (numbered 2 ls) startᶜ) e at a
 LinesWalk (bad_line j) e at a = Refusing form j a
 
 -- the refusal of a line, unless the form pass met a line that is not of the grammar
-unfoldable pub unless_bad : FormRead → ℕ → ℕ → Outcome
-unless_bad (FormRead.Bad j) number line = Outcome.Refuses 3 j
-unless_bad (FormRead.Fine n) number line = Outcome.Refuses number line
+unfoldable pub unless_bad : Result ℕ ℕ → Refused → Refused
+unless_bad (Err j) r = record { refusal = Code.Form; line = j }
+unless_bad (Ok n) r = r
 
 -- a answers a whole sheet: refusals 3 to 6, or the kind code of each line, the ellipsoid and the place of line 2, which is where line 1 ends
-unfoldable pub Admits : List ℕ → Verdict → Admission → Type 0
+unfoldable pub Admits : List ℕ → Verdict → Outcome → Type 0
 Admits s (admitted c cs) a = (at : ℕ) × (read_head s ≡ got c.head at) × (read_lines 95 2 0 s at ≡ formed c.lines) × Passing cs (surface c.head) at a
 Admits s (refused f j) a = Refusing f j a

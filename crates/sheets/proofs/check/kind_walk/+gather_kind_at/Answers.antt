@@ -1,6 +1,8 @@
 -- `sheets::check::kind_walk::gather` and `sheets::check::kind_walk::kind_at`, which call each other, meet their contracts. Assumes nothing.
 use native.Mathlib.Omega.{arith}
-use mathlib.Core.Path.{◌∙◌}
+use mathlib.Core.Path.{ap, ◌∙◌}
+use Rattle.std.specs.Prelude.{Err}
+use Rattle.std.proofs.lemmas.Result.{err_from_is_err_and}
 use Rattle.sheets.proofs.reader.ExprSteps.{expr-deep, expr-no-word}
 use Rattle.sheets.proofs.check.KindSteps.{has-none, form-refused, form-no-row, form-row, have-closed, have-sixth, have-other, have-refused, have-more, key-grows}
 use Rattle.sheets.proofs.check.kind_walk.+gather_kind_at.Goals as goal
@@ -14,23 +16,24 @@ gather-returns-then-left-eq0 t c = c.loop-b.invariant.3 _ (record { is = λ ps s
 pub gather-overflow_add-i : goal.gather-overflow_add-i
 gather-overflow_add-i t c = omega (arith, c.loop-b.invariant.0.inside)
 
-pub gather-kind_at-r-requires : goal.gather-kind_at-r-requires
-gather-kind_at-r-requires t c = (omega arith, tt)
+pub gather-kind_at-requires : goal.gather-kind_at-requires
+gather-kind_at-requires t c = (omega arith, tt)
 
-pub gather-returns-in-Refused : goal.gather-returns-in-Refused
-gather-returns-in-Refused t c = c.loop-b.invariant.3 _ (record { is = λ ps st. have-refused _ _ _ c.loop-b.invariant.0.is _ _ _ ps c.loop-b-test.true c.if-left-eq0.false _ (c.kind_at-r.ensures.is ps st) _ c.in-Refused.is })
+pub gather-returns-in_err-kind : goal.gather-returns-in_err-kind
+gather-returns-in_err-kind t c =
+    let p = err_from_is_err_and c.from_residual.result c.from_residual.ensures.1 in rw (p.1 ∙ ap Err p.2) (c.loop-b.invariant.3 _ (record { is = λ ps st. have-refused _ _ _ c.loop-b.invariant.0.is _ _ _ ps c.loop-b-test.true c.if-left-eq0.false _ (c.kind_at.ensures.is ps st) _ c.in_err-kind.was }))
 
 pub gather-overflow_mul-key : goal.gather-overflow_mul-key
-gather-overflow_mul-key t c = omega (arith, key-grows _ _ c.in-Is.kind c.if-left-eq0.false c.loop-b.invariant.1 c.loop-b.invariant.2 (omega arith))
+gather-overflow_mul-key t c = omega (arith, key-grows _ _ c.in_ok-kind.kind c.if-left-eq0.false c.loop-b.invariant.1 c.loop-b.invariant.2 (omega arith))
 
 pub gather-overflow_cast-key : goal.gather-overflow_cast-key
 gather-overflow_cast-key t c = omega arith
 
 pub gather-overflow_add-key : goal.gather-overflow_add-key
-gather-overflow_add-key t c = omega (arith, key-grows _ _ c.in-Is.kind c.if-left-eq0.false c.loop-b.invariant.1 c.loop-b.invariant.2 (omega arith))
+gather-overflow_add-key t c = omega (arith, key-grows _ _ c.in_ok-kind.kind c.if-left-eq0.false c.loop-b.invariant.1 c.loop-b.invariant.2 (omega arith))
 
-pub gather-overflow_add-key-in-Is : goal.gather-overflow_add-key-in-Is
-gather-overflow_add-key-in-Is t c = omega (arith, key-grows _ _ c.in-Is.kind c.if-left-eq0.false c.loop-b.invariant.1 c.loop-b.invariant.2 (omega arith))
+pub gather-overflow_add-key-in-loop-b : goal.gather-overflow_add-key-in-loop-b
+gather-overflow_add-key-in-loop-b t c = omega (arith, key-grows _ _ c.in_ok-kind.kind c.if-left-eq0.false c.loop-b.invariant.1 c.loop-b.invariant.2 (omega arith))
 
 pub gather-overflow_sub-left : goal.gather-overflow_sub-left
 gather-overflow_sub-left t c = omega arith
@@ -39,7 +42,7 @@ pub gather-loop-b-smaller : goal.gather-loop-b-smaller
 gather-loop-b-smaller t c = omega arith
 
 pub gather-loop-b-preserved : goal.gather-loop-b-preserved
-gather-loop-b-preserved t c = (c.byte-b-in-Is.ensures, omega arith, (key-grows _ _ c.in-Is.kind c.if-left-eq0.false c.loop-b.invariant.1 c.loop-b.invariant.2 (omega arith)).0, λ q h. c.loop-b.invariant.3 q (record { is = λ ps st. have-more _ _ _ c.loop-b.invariant.0.is _ _ _ ps c.loop-b-test.true c.if-left-eq0.false _ (c.kind_at-r.ensures.is ps st) _ _ c.in-Is.is q (h.is ps st) }))
+gather-loop-b-preserved t c = (c.byte-b-in-loop-b.ensures, omega arith, (key-grows _ _ c.in_ok-kind.kind c.if-left-eq0.false c.loop-b.invariant.1 c.loop-b.invariant.2 (omega arith)).0, λ q h. c.loop-b.invariant.3 q (record { is = λ ps st. have-more _ _ _ c.loop-b.invariant.0.is _ _ _ ps c.loop-b-test.true c.if-left-eq0.false _ (c.kind_at.ensures.is ps st) _ _ c.in_ok-kind.was q (h.is ps st) }))
 
 pub gather-overflow_add-result : goal.gather-overflow_add-result
 gather-overflow_add-result t c = omega (arith, c.loop-b.invariant.0.inside)
@@ -62,17 +65,18 @@ kind_at-returns-in_default t c = record { is = λ ps st. has-none _ _ _ _ _ (exp
 pub kind_at-overflow_sub-depth : goal.kind_at-overflow_sub-depth
 kind_at-overflow_sub-depth t c = omega arith
 
-pub kind_at-gather-g-requires : goal.kind_at-gather-g-requires
-kind_at-gather-g-requires t c = (omega arith, tt)
+pub kind_at-gather-requires : goal.kind_at-gather-requires
+kind_at-gather-requires t c = (omega arith, tt)
 
-pub kind_at-returns-in-Refused : goal.kind_at-returns-in-Refused
-kind_at-returns-in-Refused t c = record { is = λ ps st. form-refused _ _ _ c.byte-b.ensures.is _ _ c.if-b-eq40.true c.if-depth-eq0.false _ c.word-w.ensures _ _ c.in-Is.is _ (c.gather-g.ensures.is ps st) _ c.in-Refused.is }
+pub kind_at-returns-in_err-key : goal.kind_at-returns-in_err-key
+kind_at-returns-in_err-key t c =
+    let p = err_from_is_err_and c.from_residual.result c.from_residual.ensures.1 in rw (p.1 ∙ ap Err p.2) (record { is = λ ps st. form-refused _ _ _ c.byte-b.ensures.is _ _ c.if-b-eq40.true c.if-depth-eq0.false _ c.word-w.ensures _ _ c.in-Some.is _ (c.gather.ensures.is ps st) _ c.in_err-key.was })
 
 pub kind_at-returns-then-kind : goal.kind_at-returns-then-kind
-kind_at-returns-then-kind t c = record { is = λ ps st. form-no-row _ _ _ c.byte-b.ensures.is _ _ c.if-b-eq40.true c.if-depth-eq0.false _ c.word-w.ensures _ _ c.in-Is.is _ (c.gather-g.ensures.is ps st) _ _ c.in-Is-g.is _ c.kind_of_row-kind.ensures c.if-kind.true }
+kind_at-returns-then-kind t c = record { is = λ ps st. form-no-row _ _ _ c.byte-b.ensures.is _ _ c.if-b-eq40.true c.if-depth-eq0.false _ c.word-w.ensures _ _ c.in-Some.is _ (c.gather.ensures.is ps st) _ _ c.in_ok-key.was _ c.kind_of_row-kind.ensures c.if-kind.true }
 
-pub kind_at-returns-else-kind : goal.kind_at-returns-else-kind
-kind_at-returns-else-kind t c = record { is = λ ps st. form-row _ _ _ c.byte-b.ensures.is _ _ c.if-b-eq40.true c.if-depth-eq0.false _ c.word-w.ensures _ _ c.in-Is.is _ (c.gather-g.ensures.is ps st) _ _ c.in-Is-g.is _ c.kind_of_row-kind.ensures c.if-kind.false }
+pub kind_at-returns-then-b-eq40 : goal.kind_at-returns-then-b-eq40
+kind_at-returns-then-b-eq40 t c = record { is = λ ps st. form-row _ _ _ c.byte-b.ensures.is _ _ c.if-b-eq40.true c.if-depth-eq0.false _ c.word-w.ensures _ _ c.in-Some.is _ (c.gather.ensures.is ps st) _ _ c.in_ok-key.was _ c.kind_of_row-kind.ensures c.if-kind.false }
 
 pub kind_at-returns : goal.kind_at-returns
 kind_at-returns t c = record { is = λ ps st. (c.leaf_kind.ensures.is ps st).is (λ e. c.if-b-eq40.false (c.byte-b.ensures.is ∙ e)) _ }

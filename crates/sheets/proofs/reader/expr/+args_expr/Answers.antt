@@ -15,8 +15,8 @@ args-returns-then-left-eq0 t c = args_none _ _ _ _ c.byte-b.ensures.is _ c.if-b-
 pub args-overflow_add-at : goal.args-overflow_add-at
 args-overflow_add-at t c = omega arith
 
-pub args-expr-e-requires : goal.args-expr-e-requires
-args-expr-e-requires t c = (omega arith, tt)
+pub args-expr-requires : goal.args-expr-requires
+args-expr-requires t c = (omega arith, tt)
 
 pub args-overflow_sub-left : goal.args-overflow_sub-left
 args-overflow_sub-left t c = omega arith
@@ -24,11 +24,11 @@ args-overflow_sub-left t c = omega arith
 pub args-args-requires : goal.args-args-requires
 args-args-requires t c = (omega arith, tt)
 
-pub args-returns-in-Bad : goal.args-returns-in-Bad
-args-returns-in-Bad t c = args-bad _ _ _ _ c.byte-b.ensures.is _ c.if-left-eq0.false c.if-b-eq32.true _ c.expr-e.ensures c.in-Bad.is
+pub args-returns-in_err-n : goal.args-returns-in_err-n
+args-returns-in_err-n t c = rw c.from_residual.ensures (args-bad _ _ _ _ c.byte-b.ensures.is _ c.if-left-eq0.false c.if-b-eq32.true _ c.expr.ensures c.in_err-n.was)
 
-pub args-returns-in-At : goal.args-returns-in-At
-args-returns-in-At t c = args_more _ _ _ _ c.byte-b.ensures.is _ c.if-left-eq0.false c.if-b-eq32.true _ c.expr-e.ensures _ c.in-At.is _ c.args-in-At.ensures
+pub args-returns-then-b-eq32 : goal.args-returns-then-b-eq32
+args-returns-then-b-eq32 t c = args_more _ _ _ _ c.byte-b.ensures.is _ c.if-left-eq0.false c.if-b-eq32.true _ c.expr.ensures _ c.in_ok-n.was _ c.args-then-b-eq32.ensures
 
 pub args-returns : goal.args-returns
 args-returns t c = args-other _ _ _ _ c.byte-b.ensures.is _ c.if-b-eq41.false c.if-b-eq32.false
@@ -45,17 +45,17 @@ expr-overflow_sub-depth t c = omega arith
 pub expr-args-requires : goal.expr-args-requires
 expr-args-requires t c = (omega arith, tt)
 
-pub expr-returns-in-Not : goal.expr-returns-in-Not
-expr-returns-in-Not t c = expr-no-word _ _ _ c.byte-b.ensures.is _ c.if-b-eq40.true c.if-depth-eq0.false _ c.word-w.ensures c.in-Not.is
+pub expr-returns-in_err-n : goal.expr-returns-in_err-n
+expr-returns-in_err-n t c = rw c.from_residual.ensures (expr-no-word _ _ _ c.byte-b.ensures.is _ c.if-b-eq40.true c.if-depth-eq0.false _ c.word.ensures c.in_err-n.was)
 
-pub expr-returns-in-Is : goal.expr-returns-in-Is
-expr-returns-in-Is t c = expr-form _ _ _ c.byte-b.ensures.is _ c.if-b-eq40.true c.if-depth-eq0.false _ c.word-w.ensures _ _ c.in-Is.is _ c.args-in-Is.ensures
+pub expr-returns-then-b-eq40 : goal.expr-returns-then-b-eq40
+expr-returns-then-b-eq40 t c = expr-form _ _ _ c.byte-b.ensures.is _ c.if-b-eq40.true c.if-depth-eq0.false _ c.word.ensures _ _ c.in_ok-n.was _ c.args-then-b-eq40.ensures
 
-pub expr-returns-in-Is-w : goal.expr-returns-in-Is-w
-expr-returns-in-Is-w t c = expr-name _ _ _ c.byte-b.ensures.is _ c.if-b-eq40.false _ c.word-w-2.ensures _ _ c.in-Is-w.is
+pub expr-returns-in-Some : goal.expr-returns-in-Some
+expr-returns-in-Some t c = expr-name _ _ _ c.byte-b.ensures.is _ c.if-b-eq40.false _ c.word-2.ensures _ _ c.in-Some.is
 
-pub expr-returns-in-Is-q : goal.expr-returns-in-Is-q
-expr-returns-in-Is-q t c = expr-num _ _ _ c.byte-b.ensures.is _ c.if-b-eq40.false _ c.word-w-2.ensures c.in-Not-w.is _ c.num-q.ensures _ c.in-Is-q.is
+pub expr-returns : goal.expr-returns
+expr-returns t c = expr-num _ _ _ c.byte-b.ensures.is _ c.if-b-eq40.false _ c.word-2.ensures c.in_default.is _ c.num.ensures _ c.in_ok-x.was
 
-pub expr-returns-in-Not-q : goal.expr-returns-in-Not-q
-expr-returns-in-Not-q t c = expr-bad _ _ _ c.byte-b.ensures.is _ c.if-b-eq40.false _ c.word-w-2.ensures c.in-Not-w.is _ c.num-q.ensures c.in-Not-q.is
+pub expr-returns-in_err-x : goal.expr-returns-in_err-x
+expr-returns-in_err-x t c = rw c.from_residual-in_err-x.ensures (expr-bad _ _ _ c.byte-b.ensures.is _ c.if-b-eq40.false _ c.word-2.ensures c.in_default.is _ c.num.ensures c.in_err-x.was)

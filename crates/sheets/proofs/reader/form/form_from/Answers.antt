@@ -12,7 +12,7 @@ pub returns-then-number-gt96 : goal.returns-then-number-gt96
 returns-then-number-gt96 c = λ p. let v = c.loop-at.invariant in form-over _ _ _ _ (omega (arith, v.has_number)) _ (v.rest p).1 c.loop-at-test.true c.if-number-gt96.true
 
 pub returns-in_default : goal.returns-in_default
-returns-in_default c = λ p. let v = c.loop-at.invariant in form-bad _ _ _ _ (omega (arith, v.has_number)) _ (v.rest p).1 c.loop-at-test.true c.if-number-gt96.false _ c.line_end-r.ensures c.in_default.is
+returns-in_default c = λ p. let v = c.loop-at.invariant in form-bad _ _ _ _ (omega (arith, v.has_number)) _ (v.rest p).1 c.loop-at-test.true c.if-number-gt96.false _ c.line_end.ensures c.in_default.is
 
 pub overflow_add-number : goal.overflow_add-number
 overflow_add-number c = omega arith
@@ -24,8 +24,8 @@ pub loop-at-preserved : goal.loop-at-preserved
 loop-at-preserved c =
     let v = c.loop-at.invariant in
     record {
-      has_number = form-number _ _ _ c.line_end-r.ensures _ c.in-At.is _ v.has_number;
-      rest = λ p. form-more _ _ _ _ (omega (arith, v.has_number)) _ (v.rest p).1 c.loop-at-test.true c.if-number-gt96.false _ c.line_end-r.ensures _ c.in-At.is;
+      has_number = form-number _ _ _ c.line_end.ensures _ c.in-Some.is _ v.has_number;
+      rest = λ p. form-more _ _ _ _ (omega (arith, v.has_number)) _ (v.rest p).1 c.loop-at-test.true c.if-number-gt96.false _ c.line_end.ensures _ c.in-Some.is;
     }
 
 pub overflow_sub-result : goal.overflow_sub-result

@@ -3,13 +3,13 @@ use Rattle.sheets.proofs.reader.HeadSteps.{wgs-no-word, wgs-word, wgs-other}
 use Rattle.sheets.specs.code.reader.Codes.{word_char, code_from}
 use Rattle.sheets.proofs.reader.head.wgs_end.Goals as goal
 
-pub returns-in_default : goal.returns-in_default
-returns-in_default c = wgs-no-word _ _ _ c.one_word-w.ensures c.in_default.is
+pub returns-in_err-name : goal.returns-in_err-name
+returns-in_err-name c = rw c.from_residual.ensures (wgs-no-word _ _ _ c.one_word.ensures c.in_err-name.was)
 
 pub returns-then-name-eq-WGS84 : goal.returns-then-name-eq-WGS84
 unfolding word_char code_from
-returns-then-name-eq-WGS84 c = wgs-word _ _ _ c.one_word-w.ensures _ _ c.in-Is.is c.if-name-eq-WGS84.true
+returns-then-name-eq-WGS84 c = wgs-word _ _ _ c.one_word.ensures _ _ c.in_ok-name.was c.if-name-eq-WGS84.true
 
 pub returns : goal.returns
 unfolding word_char code_from
-returns c = wgs-other _ _ _ c.one_word-w.ensures _ _ c.in-Is.is c.if-name-eq-WGS84.false
+returns c = wgs-other _ _ _ c.one_word.ensures _ _ c.in_ok-name.was c.if-name-eq-WGS84.false

@@ -2,11 +2,11 @@
 use Rattle.sheets.proofs.reader.DoubleSteps.{double-none, numeral-small, double-is}
 use Rattle.sheets.proofs.reader.num.double.Goals as goal
 
-pub returns-in_default : goal.returns-in_default
-returns-in_default c = double-none _ _ _ c.num-q.ensures c.in_default.is
+pub returns-in_err-x : goal.returns-in_err-x
+returns-in_err-x c = rw c.from_residual.ensures (double-none _ _ _ c.num.ensures c.in_err-x.was)
 
-pub tens-t-requires : goal.tens-t-requires
-tens-t-requires c = (numeral-small _ _ _ c.num-q.ensures _ c.in-Is.is).1
+pub tens-requires : goal.tens-requires
+tens-requires c = (numeral-small _ _ _ c.num.ensures _ c.in_ok-x.was).1
 
 pub returns : goal.returns
-returns c = double-is _ _ _ c.num-q.ensures _ c.in-Is.is _ c.tens-t.ensures _ c.decimal-v.ensures
+returns c = double-is _ _ _ c.num.ensures _ c.in_ok-x.was _ c.tens.ensures _ c.decimal-v.ensures

@@ -23,7 +23,7 @@ pub eval-bracket-requires : goal.eval-bracket-requires
 eval-bracket-requires t c = (omega arith, omega (arith, c.requires))
 
 pub eval-returns-then-b-eq40 : goal.eval-returns-then-b-eq40
-eval-returns-then-b-eq40 t c = evals-form _ _ _ c.byte-b.ensures.is _ c.if-b-eq40.true c.if-depth-eq0.false _ c.word-w.ensures _ _ c.in-Is.is _ _ _ _ _ _ c.bracket.ensures
+eval-returns-then-b-eq40 t c = evals-form _ _ _ c.byte-b.ensures.is _ c.if-b-eq40.true c.if-depth-eq0.false _ c.word-w.ensures _ _ c.in-Some.is _ _ _ _ _ _ c.bracket.ensures
 
 pub eval-leaf-requires : goal.eval-leaf-requires
 eval-leaf-requires t c = omega (arith, c.requires)

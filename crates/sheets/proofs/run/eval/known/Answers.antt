@@ -1,11 +1,12 @@
 -- `sheets::run::eval::known` meets its contract. Assumes nothing.
 use native.Mathlib.Omega.{arith}
 use mathlib.Core.Path.{refl}
+use Rattle.sheets.proofs.check.NewestLaws.{placed-none, placed-some}
 use Rattle.sheets.proofs.run.EvalSteps.{known-none, known-reading, known-name}
 use Rattle.sheets.proofs.run.eval.known.Goals as goal
 
 pub returns-then-i-ge16 : goal.returns-then-i-ge16
-returns-then-i-ge16 c = known-none _ _ _ _ _ c.requires _ c.place-j.ensures c.if-j-eq0.true _ c.reading_index-i.ensures c.if-i-ge16.true
+returns-then-i-ge16 c = known-none _ _ _ _ _ c.requires _ (placed-none _ _ _ c.place.ensures c.in_default.is) refl _ c.reading_index-i.ensures c.if-i-ge16.true
 
 pub bounds-floats-i : goal.bounds-floats-i
 bounds-floats-i c = omega arith
@@ -16,20 +17,20 @@ bounds-floats-top c = omega arith
 pub tested-requires : goal.tested-requires
 tested-requires c = omega arith
 
-pub returns-then-j-eq0 : goal.returns-then-j-eq0
-returns-then-j-eq0 c = known-reading _ _ _ _ _ c.requires _ c.place-j.ensures c.if-j-eq0.true _ c.reading_index-i.ensures c.if-i-ge16.false _ c.tested.ensures
+pub returns-in_default : goal.returns-in_default
+returns-in_default c = known-reading _ _ _ _ _ c.requires _ (placed-none _ _ _ c.place.ensures c.in_default.is) refl _ c.reading_index-i.ensures c.if-i-ge16.false _ c.tested.ensures
 
 pub bounds-names-j : goal.bounds-names-j
-bounds-names-j c = omega (arith, c.place-j.ensures.most)
+bounds-names-j c = omega (arith, (placed-some _ _ _ c.place.ensures _ c.in-Some.is).0.most)
 
 pub overflow_mul-j : goal.overflow_mul-j
-overflow_mul-j c = omega (arith, c.place-j.ensures.most)
+overflow_mul-j c = omega (arith, (placed-some _ _ _ c.place.ensures _ c.in-Some.is).0.most)
 
 pub copy_floats-requires : goal.copy_floats-requires
-copy_floats-requires c = (omega (arith, c.place-j.ensures.most), omega arith)
+copy_floats-requires c = (omega (arith, (placed-some _ _ _ c.place.ensures _ c.in-Some.is).0.most), omega arith)
 
 pub tested-requires-2 : goal.tested-requires-2
 tested-requires-2 c = omega arith
 
 pub returns : goal.returns
-returns c = known-name _ _ _ _ _ c.requires _ c.place-j.ensures c.if-j-eq0.false _ refl _ c.copy_floats.ensures _ c.tested-2.ensures
+returns c = known-name _ _ _ _ _ c.requires _ (placed-some _ _ _ c.place.ensures _ c.in-Some.is).0 (placed-some _ _ _ c.place.ensures _ c.in-Some.is).1 _ refl _ c.copy_floats.ensures _ c.tested-2.ensures

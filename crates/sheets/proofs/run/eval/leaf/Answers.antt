@@ -12,11 +12,11 @@ bounds-floats-top c = omega arith
 pub tested-requires : goal.tested-requires
 tested-requires c = omega arith
 
-pub returns-in-Is : goal.returns-in-Is
-returns-in-Is c = leaf-word _ _ _ _ _ _ c.word-w.ensures _ _ c.in-Is.is _ _ c.known.ensures
+pub returns-in-Some : goal.returns-in-Some
+returns-in-Some c = leaf-word _ _ _ _ _ _ c.word-w.ensures _ _ c.in-Some.is _ _ c.known.ensures
 
-pub returns-in-Is-q : goal.returns-in-Is-q
-returns-in-Is-q c = leaf-num _ _ _ _ _ _ c.word-w.ensures c.in-Not.is _ c.double-q.ensures c.requires _ _ c.in-Is-q.is _ c.tested.ensures
+pub returns-in-Some-q : goal.returns-in-Some-q
+returns-in-Some-q c = leaf-num _ _ _ _ _ _ c.word-w.ensures c.in-None.is _ c.double-q.ensures c.requires _ _ c.in-Some-q.is _ c.tested.ensures
 
-pub returns-in-Not-q : goal.returns-in-Not-q
-returns-in-Not-q c = leaf-none _ _ _ _ _ _ c.word-w.ensures c.in-Not.is _ c.double-q.ensures c.in-Not-q.is _ _
+pub returns-in-None-q : goal.returns-in-None-q
+returns-in-None-q c = leaf-none _ _ _ _ _ _ c.word-w.ensures c.in-None.is _ c.double-q.ensures c.in-None-q.is _ _

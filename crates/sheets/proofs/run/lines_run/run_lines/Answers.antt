@@ -1,8 +1,10 @@
 -- `sheets::run::lines_run::run_lines` meets its contract. Assumes nothing.
 use native.Mathlib.Omega.{arith}
-use mathlib.Core.Path.{refl, ◌∙◌}
+use mathlib.Core.Path.{refl, ◌∙◌, ap}
+use Rattle.std.specs.Prelude.{Some}
 use lib.ListN.{length-set, length-replicate}
 use Rattle.sheets.proofs.reader.LineSteps.{head-says}
+use Rattle.sheets.proofs.check.NewestLaws.{placed-or}
 use Rattle.sheets.proofs.run.RunSteps.{runs-start, runs-end, runs-over, runs-bad, runs-let-not, runs-let, runs-whole-not, runs-whole}
 use borrow.Author.Rules.{rules}
 use borrow.Enum.Refused.{opened}
@@ -15,11 +17,11 @@ loop-line-init c = (simp length-replicate, omega arith, omega arith, refl, runs-
 pub overflow_add-line : goal.overflow_add-line
 overflow_add-line c = omega arith
 
-pub shape_of-out-in-Bad : goal.shape_of-out-in-Bad
-shape_of-out-in-Bad c = c.loop-line.invariant.3
+pub shape_of-out-in-None : goal.shape_of-out-in-None
+shape_of-out-in-None c = c.loop-line.invariant.3
 
-pub returns-in-Bad : goal.returns-in-Bad
-returns-in-Bad c = c.loop-line.invariant.4 _ _ (runs-bad c.if-at-s.true (head-says _ _ _ c.line_head.ensures _ c.in-Bad.is) _ _)
+pub returns-in-None : goal.returns-in-None
+returns-in-None c = c.loop-line.invariant.4 _ _ (runs-bad c.if-at-s.true (head-says _ _ _ c.line_head.ensures _ c.in-None.is) _ _)
 
 pub overflow_add-n : goal.overflow_add-n
 overflow_add-n c = omega arith
@@ -34,7 +36,7 @@ pub shape_of-out-in_default : goal.shape_of-out-in_default
 shape_of-out-in_default c = c.loop-line.invariant.3
 
 pub returns-in_default : goal.returns-in_default
-returns-in_default c = c.loop-line.invariant.4 _ _ (runs-let-not c.if-at-s.true _ _ (head-says _ _ _ c.line_head.ensures _ c.in-Let.is) _ _ c.let_value-r.ensures (opened c.in_default.in_default-own.keys2) _ c.stopped.ensures)
+returns-in_default c = c.loop-line.invariant.4 _ _ (runs-let-not c.if-at-s.true _ _ (head-says _ _ _ c.line_head.ensures _ (c.in-Some-Let.is ∙ ap Some c.in-Some-Let.field-0-is)) _ _ c.let_value-r.ensures (opened c.in_default.in_default-own.keys2) _ c.stopped.ensures)
 
 pub give-requires : goal.give-requires
 give-requires c = omega (arith, c.loop-line.invariant.1, c.loop-line-test.true)
@@ -45,23 +47,23 @@ offset_bounds-t-n c = omega (arith, c.loop-line.invariant.1, c.loop-line-test.tr
 pub bounds-t-n : goal.bounds-t-n
 bounds-t-n c = omega (arith, c.loop-line.invariant.0, c.loop-line.invariant.1, c.loop-line-test.true)
 
-pub loop-line-smaller-in-Let : goal.loop-line-smaller-in-Let
-loop-line-smaller-in-Let c = omega (arith, c.loop-line-test.true)
+pub loop-line-smaller-in-Some-Let : goal.loop-line-smaller-in-Some-Let
+loop-line-smaller-in-Some-Let c = omega (arith, c.loop-line-test.true)
 
-pub loop-line-preserved-in-Let : goal.loop-line-preserved-in-Let
-loop-line-preserved-in-Let c = (simp length-set c.loop-line.invariant.0, omega (arith, c.loop-line.invariant.1), omega (arith, c.loop-line-test.true), c.loop-line.invariant.3, λ q o k. c.loop-line.invariant.4 q o (runs-let c.if-at-s.true _ _ (head-says _ _ _ c.line_head.ensures _ c.in-Let.is) _ _ c.let_value-r.ensures _ _ c.in-Is.is (omega (arith, c.loop-line.invariant.1, c.loop-line-test.true)) _ _ c.give.ensures q o k))
+pub loop-line-preserved-in-Some-Let : goal.loop-line-preserved-in-Some-Let
+loop-line-preserved-in-Some-Let c = (simp length-set c.loop-line.invariant.0, omega (arith, c.loop-line.invariant.1), omega (arith, c.loop-line-test.true), c.loop-line.invariant.3, λ q o k. c.loop-line.invariant.4 q o (runs-let c.if-at-s.true _ _ (head-says _ _ _ c.line_head.ensures _ (c.in-Some-Let.is ∙ ap Some c.in-Some-Let.field-0-is)) _ _ c.let_value-r.ensures _ _ c.in-Is.is (omega (arith, c.loop-line.invariant.1, c.loop-line-test.true)) _ _ c.give.ensures q o k))
 
 pub bounds-t-j : goal.bounds-t-j
-bounds-t-j c = omega (arith, c.place-j.ensures.most, c.loop-line.invariant.0)
+bounds-t-j c = omega (arith, (placed-or _ _ _ c.place.ensures _ c.unwrap_or-j.ensures).most, c.loop-line.invariant.0)
 
 pub whole_line-requires : goal.whole_line-requires
-whole_line-requires c = c.place-j.ensures.most
+whole_line-requires c = (placed-or _ _ _ c.place.ensures _ c.unwrap_or-j.ensures).most
 
 pub shape_of-out-in_default-whole_line : goal.shape_of-out-in_default-whole_line
 shape_of-out-in_default-whole_line c = c.whole_line.auto.out ∙ c.loop-line.invariant.3
 
 pub returns-in_default-whole_line : goal.returns-in_default-whole_line
-returns-in_default-whole_line c = c.loop-line.invariant.4 _ _ (runs-whole-not c.if-at-s.true _ c.line_head.ensures _ _ c.in-Whole.is (omega (arith, c.loop-line-test.true)) _ c.named.ensures _ c.place-j.ensures _ _ _ _ c.whole_line.ensures (opened c.in_default-whole_line.in_default-whole_line-own.keys2) _ c.stopped-in_default-whole_line.ensures)
+returns-in_default-whole_line c = c.loop-line.invariant.4 _ _ (runs-whole-not c.if-at-s.true _ c.line_head.ensures _ _ (c.in-Some-Whole.is ∙ ap Some c.in-Some-Whole.field-0-is) (omega (arith, c.loop-line-test.true)) _ c.named.ensures _ (placed-or _ _ _ c.place.ensures _ c.unwrap_or-j.ensures) _ _ _ _ c.whole_line.ensures (opened c.in_default-whole_line.in_default-whole_line-own.keys2) _ c.stopped-in_default-whole_line.ensures)
 
 pub loop-line-smaller : goal.loop-line-smaller
 loop-line-smaller c = omega (arith, c.loop-line-test.true)
@@ -73,7 +75,7 @@ loop-line-preserved c =
       omega (arith, before.1),
       omega (arith, c.loop-line-test.true),
       c.whole_line.auto.out ∙ before.3,
-      λ q o k. before.4 q o (runs-whole c.if-at-s.true _ c.line_head.ensures _ _ c.in-Whole.is (omega (arith, c.loop-line-test.true)) _ c.named.ensures _ c.place-j.ensures _ _ _ _ c.whole_line.ensures (omega (arith, before.1)) _ _ c.in-Is-whole_line.is q o k),
+      λ q o k. before.4 q o (runs-whole c.if-at-s.true _ c.line_head.ensures _ _ (c.in-Some-Whole.is ∙ ap Some c.in-Some-Whole.field-0-is) (omega (arith, c.loop-line-test.true)) _ c.named.ensures _ (placed-or _ _ _ c.place.ensures _ c.unwrap_or-j.ensures) _ _ _ _ c.whole_line.ensures (omega (arith, before.1)) _ _ c.in-Is-whole_line.is q o k),
     )
 
 pub shape_of-out : goal.shape_of-out
@@ -84,3 +86,6 @@ returns c = elim c.loop-line-test.branch [
   | then-loop-line-test+else-at-s w ↦ c.loop-line.invariant.4 _ _ (runs-end w.if-at-s.false _ c.run_answer-2.ensures)
   | else-loop-line-test w ↦ c.loop-line.invariant.4 _ _ (runs-over (omega (arith, w.loop-line-test.false)) _ c.run_answer-2.ensures)
 ]
+
+pub offset_bounds-t-j : goal.offset_bounds-t-j
+offset_bounds-t-j c = omega (arith, (placed-or _ _ _ c.place.ensures _ c.unwrap_or-j.ensures).most)
