@@ -34,16 +34,14 @@ fn digits(s: &[u8], at: usize, most: usize, before: u64) -> DigitsRead
     let mut i = at;
     let mut left = most;
     while 0 < left {
-        let c = byte(s, i);
-        let d = digit(c);
-        if d == 0 {
+        let Some(d) = digit(byte(s, i)) else {
             return DigitsRead {
                 value,
                 count,
                 end: i,
             };
-        }
-        value = value * 10 + (d - 1);
+        };
+        value = value * 10 + d;
         count += 1;
         i += 1;
         left -= 1;
