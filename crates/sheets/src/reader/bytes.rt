@@ -22,12 +22,10 @@ pub(crate) fn stands(s: &[u8], at: usize, w: &[u8]) -> bool
     if s.len() - at < w.len() {
         return false;
     }
-    let mut i: usize = 0;
-    while i < w.len() {
+    for i in 0..w.len() {
         if s[at + i] != w[i] {
             return false;
         }
-        i += 1;
     }
     true
 }
@@ -84,14 +82,12 @@ pub fn word(s: &[u8], at: usize) -> Option<(u64, usize)>
     ensures { result ≡ coded (read_word s.now at) }
 {
     let mut code = letter(byte(s, at))?;
-    let mut i = at + 1;
     let end = word_limit(s, at);
-    while i < end {
+    for i in at + 1..end {
         let Some(d) = word_char(s[i]) else {
             return Some((code, i));
         };
         code = code * 37 + d;
-        i += 1;
     }
-    Some((code, i))
+    Some((code, end))
 }

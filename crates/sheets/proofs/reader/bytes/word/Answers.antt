@@ -1,6 +1,7 @@
 -- `sheets::reader::bytes::word` meets its contract. Assumes nothing.
 use Prim.Native.Nat.{◌≤◌, ◌<◌, ◌-◌, ◌+◌, ◌*◌, ◌^◌}
-use mathlib.Core.Path.{refl}
+use mathlib.Core.Path.{refl, ap, ◌∙◌}
+use Rattle.std.specs.Prelude.{Some}
 use native.Mathlib.Omega.{arith}
 use Rattle.sheets.proofs.reader.CharSteps.{char_none, char-got}
 use Rattle.sheets.proofs.reader.TokenSteps.{cap, word_none, word_some, word_small, word-grow, word-turn, word-stop, word_end}
@@ -9,8 +10,8 @@ use Rattle.sheets.proofs.reader.bytes.word.Goals as goal
 pub returns-in_err-code : goal.returns-in_err-code
 returns-in_err-code c = rw c.from_residual.ensures (word_none _ _ _ _ c.byte.ensures.is refl (char_none _ _ c.letter.ensures.is c.in_err-code.was))
 
-pub overflow_add-i : goal.overflow_add-i
-overflow_add-i c = let first = char-got _ _ c.letter.ensures.is _ c.in_ok-code.was in omega (arith, first.0, first.1, c.letter.ensures.from_byte, c.byte.ensures.inside)
+pub overflow_step-i : goal.overflow_step-i
+overflow_step-i c = let first = char-got _ _ c.letter.ensures.is _ c.in_ok-code.was in omega (arith, first.0, first.1, c.letter.ensures.from_byte, c.byte.ensures.inside)
 
 pub loop-i-init : goal.loop-i-init
 loop-i-init c =
@@ -37,9 +38,6 @@ overflow_add-code c =
     let caps : 37 ^ (12 - (c.args.at + 12 - (c.loop-i.i + 1))) ≤ 37 ^ 12 = cap 37 12 _ (omega arith) in
     omega arith
 
-pub overflow_add-i-in-loop-i : goal.overflow_add-i-in-loop-i
-overflow_add-i-in-loop-i c = omega arith
-
 pub loop-i-smaller : goal.loop-i-smaller
 loop-i-smaller c = omega arith
 
@@ -49,4 +47,7 @@ loop-i-preserved c =
     (omega arith, (let it : c.loop-i.code * 37 + c.in-Some.d < 37 ^ (12 - (c.args.at + 12 - (c.loop-i.i + 1))) = word-grow _ _ _ _ (omega arith) (omega arith) c.loop-i.invariant.1 (omega (arith, next.0, c.word_char.ensures.small)) in it), word-turn _ _ _ _ _ _ next.0 (omega arith) (λ z. omega (arith, z, next.1)) c.loop-i.invariant.2)
 
 pub returns : goal.returns
-returns c = word_end _ _ _ _ _ (omega arith) c.loop-i.invariant.2
+returns c =
+    let first = char-got _ _ c.letter.ensures.is _ c.in_ok-code.was in
+    let begins : c.args.at + 1 ≤ c.word_limit-end.result = omega (arith, first.0, first.1, c.letter.ensures.from_byte, c.byte.ensures.inside) in
+    ap (λ n. Some (c.loop-i.code, n)) (omega (arith, begins)) ∙ word_end _ _ _ _ _ (omega arith) c.loop-i.invariant.2
