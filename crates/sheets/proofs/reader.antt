@@ -10,6 +10,7 @@ pub mod SheetLaws
 pub mod FormLaws
 pub mod NumLaws
 pub mod LineNumbers
+pub mod CharSteps
 pub mod TokenSteps
 pub mod Viewed
 pub mod DoubleSteps

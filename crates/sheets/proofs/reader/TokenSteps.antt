@@ -121,6 +121,13 @@ module _ (s : List ℕ) (b d value count i left : ℕ) (r : DigitsRead) (eb : b 
   pub digits-stop : d ≡ 0 → digits_of value count (chars digit left s i) i ≡ r → record { value = value; count = count; end = i } ≡ r
   digits-stop h inv = digits-ends value count i _ r (chars-stop digit s left i (cc)) inv
 
+-- a turn with the digit's value
+pub digits-next : (s : List ℕ) (b d value count i left : ℕ) (r : DigitsRead) → b ≡ get_or s i 0 → digit b ≡ suc d → 0 < left → digits_of value count (chars digit left s i) i ≡ r
+    → digits_of (value * 10 + d) (count + 1) (chars digit (left - 1) s (i + 1)) (i + 1) ≡ r
+digits-next s b d value count i left r eb ed pos inv =
+    let z : d ≡ suc d - 1 = omega arith in
+    ap (λ k. digits_of (value * 10 + k) (count + 1) (chars digit (left - 1) s (i + 1)) (i + 1)) z ∙ digits-turn s b (suc d) value count i left r eb (sym ed) pos (λ h. omega arith) inv
+
 pub digits-end : (s : List ℕ) (value count i left : ℕ) (r : DigitsRead) → left ≤ 0 → digits_of value count (chars digit left s i) i ≡ r → record { value = value; count = count; end = i } ≡ r
 digits-end s value count i left r h inv = digits-ends value count i _ r (chars-none digit s left i h) inv
 

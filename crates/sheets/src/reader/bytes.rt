@@ -1,9 +1,9 @@
 // The bytes of a sheet, one at a time and as words. A place is a byte's number, from 0.
 // Every function here and in the other files of the reader takes every list of bytes and every place.
 ghost use Rattle.std.specs.Prelude.{◌+◌, min, ◌≡◌, length};
-ghost use Rattle.sheets.specs.code.reader.Codes.{letter, word_char, digit};
+ghost use Rattle.sheets.specs.code.reader.Codes.{letter, word_char};
 ghost use Rattle.sheets.specs.code.reader.Reader.{read_word};
-ghost use Rattle.sheets.specs.code.reader.Views.{ByteAt, CharOf, stands_at, coded};
+ghost use Rattle.sheets.specs.code.reader.Views.{ByteAt, CharOf, DigitOf, stands_at, coded};
 
 // The byte at a place, 0 past the end.
 pub fn byte(s: &[u8], at: usize) -> u8
@@ -22,56 +22,46 @@ pub(crate) fn stands(s: &[u8], at: usize, w: &[u8]) -> bool
     if s.len() - at < w.len() {
         return false;
     }
-    let mut i: usize = 0;
-    while i < w.len() {
+    for i in 0..w.len() {
         if s[at + i] != w[i] {
             return false;
         }
-        i += 1;
     }
     true
 }
 
-// 1 to 26 for a to z, else 0.
-pub fn letter(b: u8) -> u64
+// 1 to 26 for a to z.
+pub fn letter(b: u8) -> Option<u64>
     ensures { CharOf 26 (letter b) b result }
 {
-    if 97 <= b {
-        if b <= 122 {
-            return (b - 96) as u64;
-        }
+    match b {
+        b'a'..=b'z' => Some((b - b'a') as u64 + 1),
+        _ => None,
     }
-    0
 }
 
-// 1 to 26 for a to z, 27 to 36 for 0 to 9, else 0. Tested in this order: what ends a word, a space or a bracket, is known by one test.
-pub fn word_char(b: u8) -> u64
+// 1 to 26 for a to z, 27 to 36 for 0 to 9. Tested in this order: what ends a word, a space or a bracket, is known by one test.
+pub fn word_char(b: u8) -> Option<u64>
     ensures { CharOf 36 (word_char b) b result }
 {
-    if b < 48 {
-        return 0;
+    if b < b'0' {
+        return None;
     }
-    if b <= 57 {
-        return (b - 21) as u64;
+    match b {
+        b'0'..=b'9' => Some((b - b'0') as u64 + 27),
+        b'a'..=b'z' => Some((b - b'a') as u64 + 1),
+        _ => None,
     }
-    if 97 <= b {
-        if b <= 122 {
-            return (b - 96) as u64;
-        }
-    }
-    0
 }
 
-// 1 to 10 for 0 to 9, else 0.
-pub fn digit(b: u8) -> u64
-    ensures { CharOf 10 (digit b) b result }
+// A digit's value.
+pub fn digit(b: u8) -> Option<u64>
+    ensures { DigitOf b result }
 {
-    if 48 <= b {
-        if b <= 57 {
-            return (b - 47) as u64;
-        }
+    match b {
+        b'0'..=b'9' => Some((b - b'0') as u64),
+        _ => None,
     }
-    0
 }
 
 // Where a word at a place ends at the latest: with the bytes, or after 12 characters.
@@ -91,21 +81,13 @@ fn word_limit(s: &[u8], at: usize) -> usize
 pub fn word(s: &[u8], at: usize) -> Option<(u64, usize)>
     ensures { result ≡ coded (read_word s.now at) }
 {
-    let b = byte(s, at);
-    let first = letter(b);
-    if first == 0 {
-        return None;
-    }
-    let mut code = first;
-    let mut i = at + 1;
+    let mut code = letter(byte(s, at))?;
     let end = word_limit(s, at);
-    while i < end {
-        let d = word_char(s[i]);
-        if d == 0 {
+    for i in at + 1..end {
+        let Some(d) = word_char(s[i]) else {
             return Some((code, i));
-        }
+        };
         code = code * 37 + d;
-        i += 1;
     }
-    Some((code, i))
+    Some((code, end))
 }

@@ -1,5 +1,5 @@
 // The NUM at a place: its sign, its digits as one number, and how many of them stand behind the point.
-ghost use Rattle.std.specs.Prelude.{◌≡◌, ◌<◌, ◌≤◌, ◌^◌};
+ghost use Rattle.std.specs.Prelude.{◌≡◌, ◌<◌, ◌≤◌};
 ghost use Rattle.sheets.specs.code.reader.Codes.{digit};
 ghost use Rattle.sheets.specs.code.reader.Reader.{chars, read_whole, read_num, read_unsigned};
 ghost use Rattle.sheets.specs.code.reader.Views.{digits_read, counted, doubled, unsigned_double};
@@ -34,16 +34,14 @@ fn digits(s: &[u8], at: usize, most: usize, before: u64) -> DigitsRead
     let mut i = at;
     let mut left = most;
     while 0 < left {
-        let c = byte(s, i);
-        let d = digit(c);
-        if d == 0 {
+        let Some(d) = digit(byte(s, i)) else {
             return DigitsRead {
                 value,
                 count,
                 end: i,
             };
-        }
-        value = value * 10 + (d - 1);
+        };
+        value = value * 10 + d;
         count += 1;
         i += 1;
         left -= 1;
@@ -96,26 +94,12 @@ pub fn num(s: &[u8], at: usize) -> Option<Numeral>
     num_whole(s, false, at)
 }
 
-// 10 to the number of digits behind the point.
-fn tens(behind: usize) -> u64
-    requires { behind ≤ 6 }
-    ensures { result ≡ 10 ^ behind }
-{
-    let mut value: u64 = 1;
-    let mut left = behind;
-    while 0 < left {
-        value = value * 10;
-        left -= 1;
-    }
-    value
-}
-
 // The NUM at a place as a double, the nearest to it, and the place after it.
 pub fn double(s: &[u8], at: usize) -> Option<(f64, usize)>
     ensures { result ≡ doubled (read_num s.now at) }
 {
     let x = num(s, at)?;
-    let v = decimal(x.minus, x.digits, tens(x.behind));
+    let v = decimal(x.minus, x.digits, 10u64.pow(x.behind as u32));
     Some((v, x.end))
 }
 

@@ -1,9 +1,9 @@
 -- The contracts' views: what the code answers, said of what the reader of Reader.antt reads.
 -- No part of what must be believed: they only tie the code to the reader, and what the code does for a sheet is said by the grammar and the claim.
-use Rattle.std.specs.Prelude.{ℕ, ◌+◌, ◌-◌, ◌*◌, ◌≤◌, ◌≡◌, Bool, true, false, List, [], ◌∷◌, eqb, leb, length, get_or, drop, Option, Some, None, Result, Ok, Err, Float}
+use Rattle.std.specs.Prelude.{ℕ, zero, suc, ◌+◌, ◌-◌, ◌*◌, ◌≤◌, ◌≡◌, Bool, true, false, List, [], ◌∷◌, eqb, leb, length, get_or, drop, Option, Some, None, Result, Ok, Err, Float}
 use Rattle.sheets.specs.Text.{Word}
 use Rattle.sheets.specs.Trees.{Num, Unsigned, signless, decimal_from, num_digits, Line, let_line, show_line, total_line, apart_line, Head, wgs84, custom, Sheet}
-use Rattle.sheets.specs.code.reader.Codes.{code_of}
+use Rattle.sheets.specs.code.reader.Codes.{digit, code_of}
 use Rattle.sheets.specs.code.reader.Reader.{Got, none, got, read_word, opening, closing, limit, from_rows, Begun, let_word, whole, line_rows, Form, formed, bad_line}
 use Rattle.sheets.specs.Table.{when}
 use Rattle.sheets.specs.Limits.{num_value}
@@ -21,11 +21,27 @@ pub record ByteAt (s : List ℕ) (at r : ℕ) : Type 0 where
   pub is : r ≡ get_or s at 0
   pub inside : r ≤ 255 * (length s - at)
 
--- r is the number n, at most `most`, that the byte b stands for, 0 for none
-pub record CharOf (most n b r : ℕ) : Type 0 where
-  pub is : r ≡ n
-  pub small : r ≤ most
-  pub from_byte : r ≤ b
+-- a character's number, where 0 stands for none
+unfoldable pub char_number : ℕ → Option ℕ
+char_number zero = None
+char_number (suc n) = Some (suc n)
+
+-- r is the number n, at most `most`, that the byte b stands for
+pub record CharOf (most n b : ℕ) (r : Option ℕ) : Type 0 where
+  pub is : r ≡ char_number n
+  pub small : n ≤ most
+  pub from_byte : n ≤ b
+
+-- a digit's value, one less than its number, where 0 stands for none
+unfoldable pub digit_value : ℕ → Option ℕ
+digit_value zero = None
+digit_value (suc n) = Some n
+
+-- r is the value of the digit that the byte b stands for
+pub record DigitOf (b : ℕ) (r : Option ℕ) : Type 0 where
+  pub is : r ≡ digit_value (digit b)
+  pub small : digit b ≤ 10
+  pub from_byte : digit b ≤ b
 
 -- whether the first list stands at the beginning of the second
 unfoldable pub begins : List ℕ → List ℕ → Bool

@@ -1,25 +1,14 @@
 -- `sheets::reader::bytes::digit` meets its contract. Assumes nothing.
 use native.Mathlib.Omega.{arith}
-use borrow.Author.Tests.{le-leb, lt-leb}
-use Rattle.sheets.specs.code.reader.Codes.{digit}
+use mathlib.Core.Path.{◌∙◌}
+use Rattle.sheets.proofs.reader.CharSteps.{digit-in, digit-below, digit-above, some-digit, no_digit}
 use Rattle.sheets.proofs.reader.bytes.digit.Goals as goal
 
-pub returns-then-b-le57 : goal.returns-then-b-le57
-unfolding digit
-returns-then-b-le57 c = record {
-  is = simp (le-leb _ _ c.if-b-ge48.true, le-leb _ _ c.if-b-le57.true);
-  small = omega arith;
-  from_byte = omega arith;
-}
+pub returns-in-48-to-57 : goal.returns-in-48-to-57
+returns-in-48-to-57 c = some-digit _ _ (digit-in c.args.b (omega arith) (omega arith) ∙ omega arith) (omega arith) (omega arith)
 
-pub returns-else-b-le57 : goal.returns-else-b-le57
-unfolding digit
-returns-else-b-le57 c = record {
-  is = simp (le-leb _ _ c.if-b-ge48.true, lt-leb _ _ c.if-b-le57.false);
-  small = omega arith;
-  from_byte = omega arith;
-}
+pub returns-in_default : goal.returns-in_default
+returns-in_default c = no_digit _ (digit-below c.args.b (omega arith))
 
-pub returns-else-b-ge48 : goal.returns-else-b-ge48
-unfolding digit
-returns-else-b-ge48 c = record { is = simp (lt-leb _ _ c.if-b-ge48.false); small = omega arith; from_byte = omega arith }
+pub returns-in_default-2 : goal.returns-in_default-2
+returns-in_default-2 c = no_digit _ (digit-above c.args.b (omega arith))

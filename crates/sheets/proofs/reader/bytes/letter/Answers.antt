@@ -1,25 +1,13 @@
 -- `sheets::reader::bytes::letter` meets its contract. Assumes nothing.
 use native.Mathlib.Omega.{arith}
-use borrow.Author.Tests.{le-leb, lt-leb}
-use Rattle.sheets.specs.code.reader.Codes.{letter}
+use Rattle.sheets.proofs.reader.CharSteps.{letter-in, letter-below, letter-above, some-char, no_char}
 use Rattle.sheets.proofs.reader.bytes.letter.Goals as goal
 
-pub returns-then-b-le122 : goal.returns-then-b-le122
-unfolding letter
-returns-then-b-le122 c = record {
-  is = simp (le-leb _ _ c.if-b-ge97.true, le-leb _ _ c.if-b-le122.true);
-  small = omega arith;
-  from_byte = omega arith;
-}
+pub returns-in-97-to-122 : goal.returns-in-97-to-122
+returns-in-97-to-122 c = let e = letter-in c.args.b (omega arith) (omega arith) in some-char _ _ _ _ (omega (arith, e)) (omega arith) (omega (arith, e)) (omega (arith, e))
 
-pub returns-else-b-le122 : goal.returns-else-b-le122
-unfolding letter
-returns-else-b-le122 c = record {
-  is = simp (le-leb _ _ c.if-b-ge97.true, lt-leb _ _ c.if-b-le122.false);
-  small = omega arith;
-  from_byte = omega arith;
-}
+pub returns-in_default : goal.returns-in_default
+returns-in_default c = no_char _ _ _ (letter-below c.args.b (omega arith))
 
-pub returns-else-b-ge97 : goal.returns-else-b-ge97
-unfolding letter
-returns-else-b-ge97 c = record { is = simp (lt-leb _ _ c.if-b-ge97.false); small = omega arith; from_byte = omega arith }
+pub returns-in_default-2 : goal.returns-in_default-2
+returns-in_default-2 c = no_char _ _ _ (letter-above c.args.b (omega arith))

@@ -28,9 +28,6 @@ bounds-w-i c = omega arith
 pub returns-then-s-at-3 : goal.returns-then-s-at-3
 returns-then-s-at-3 c = begins-not _ _ _ c.loop-i.i (omega arith) (omega arith) c.if-s-at-3.true ∙ sym c.loop-i.invariant.2
 
-pub overflow_add-i : goal.overflow_add-i
-overflow_add-i c = omega arith
-
 pub loop-i-smaller : goal.loop-i-smaller
 loop-i-smaller c = omega arith
 

@@ -1,45 +1,19 @@
 -- `sheets::reader::bytes::word_char` meets its contract. Assumes nothing.
 use native.Mathlib.Omega.{arith}
-use borrow.Author.Tests.{le-leb, lt-leb}
-use Rattle.sheets.specs.code.reader.Codes.{word_char}
+use Rattle.sheets.proofs.reader.CharSteps.{char-letter, char-digit, char-below, char-between, char-above, some-char, no_char}
 use Rattle.sheets.proofs.reader.bytes.word_char.Goals as goal
 
 pub returns-then-b-lt48 : goal.returns-then-b-lt48
-unfolding word_char
-returns-then-b-lt48 c = record {
-  is = simp (lt-leb 97 c.args.b (omega arith), lt-leb _ _ c.if-b-lt48.true);
-  small = omega arith;
-  from_byte = omega arith;
-}
+returns-then-b-lt48 c = no_char _ _ _ (char-below c.args.b (omega arith))
 
-pub returns-then-b-le57 : goal.returns-then-b-le57
-unfolding word_char
-returns-then-b-le57 c = record {
-  is = simp (lt-leb 97 c.args.b (omega arith), le-leb _ _ c.if-b-lt48.false, le-leb _ _ c.if-b-le57.true);
-  small = omega arith;
-  from_byte = omega arith;
-}
+pub returns-in-48-to-57 : goal.returns-in-48-to-57
+returns-in-48-to-57 c = let e = char-digit c.args.b (omega arith) (omega arith) in some-char _ _ _ _ (omega (arith, e)) (omega arith) (omega (arith, e)) (omega (arith, e))
 
-pub returns-then-b-le122 : goal.returns-then-b-le122
-unfolding word_char
-returns-then-b-le122 c = record {
-  is = simp (le-leb _ _ c.if-b-ge97.true, le-leb _ _ c.if-b-le122.true);
-  small = omega arith;
-  from_byte = omega arith;
-}
+pub returns-in-97-to-122 : goal.returns-in-97-to-122
+returns-in-97-to-122 c = let e = char-letter c.args.b (omega arith) (omega arith) in some-char _ _ _ _ (omega (arith, e)) (omega arith) (omega (arith, e)) (omega (arith, e))
 
-pub returns-else-b-le122 : goal.returns-else-b-le122
-unfolding word_char
-returns-else-b-le122 c = record {
-  is = simp (le-leb _ _ c.if-b-ge97.true, lt-leb _ _ c.if-b-le122.false);
-  small = omega arith;
-  from_byte = omega arith;
-}
+pub returns-in_default-2 : goal.returns-in_default-2
+returns-in_default-2 c = no_char _ _ _ (char-between c.args.b (omega arith) (omega arith))
 
-pub returns-else-b-ge97 : goal.returns-else-b-ge97
-unfolding word_char
-returns-else-b-ge97 c = record {
-  is = simp (lt-leb _ _ c.if-b-ge97.false, le-leb _ _ c.if-b-lt48.false, lt-leb _ _ c.if-b-le57.false);
-  small = omega arith;
-  from_byte = omega arith;
-}
+pub returns-in_default-3 : goal.returns-in_default-3
+returns-in_default-3 c = no_char _ _ _ (char-above c.args.b (omega arith))
