@@ -30,10 +30,9 @@ fn known(
 {
     let j = word_place(words, newest, code);
     if j == 0 {
-        let i = reading_index(code);
-        if 16 <= i {
+        let Some(i) = reading_index(code) else {
             return Evaluated::Sticks;
-        }
+        };
         floats[top] = floats[i];
         return tested(0, floats, top, end);
     }

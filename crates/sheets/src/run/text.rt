@@ -79,8 +79,7 @@ fn has_room(length: usize, from: usize, end: usize, size: usize, at: usize) -> b
 pub fn output_line(s: &[u8], from: usize, end: usize, v: Value, out: &mut [u8], at: usize) -> usize
     ensures { Written out.old at (line_if (room s.now from end out.old at) s.now from end v) out.new result }
 {
-    let ok = has_room(s.len(), from, end, out.len(), at);
-    if !ok {
+    if !has_room(s.len(), from, end, out.len(), at) {
         return at;
     }
     let i = put_text(&s[from..end], out, at);
@@ -94,8 +93,7 @@ pub fn output_line(s: &[u8], from: usize, end: usize, v: Value, out: &mut [u8], 
 pub fn total_line(sum: Length, out: &mut [u8], at: usize) -> usize
     ensures { Written out.old at (total_if out.old at sum) out.new result }
 {
-    let ok = has_room(5, 0, 5, out.len(), at);
-    if !ok {
+    if !has_room(5, 0, 5, out.len(), at) {
         return at;
     }
     let i = put_text(b"total ", out, at);

@@ -4,8 +4,8 @@ use mathlib.Core.Path.{refl}
 use Rattle.sheets.proofs.run.EvalSteps.{known-none, known-reading, known-name}
 use Rattle.sheets.proofs.run.eval.known.Goals as goal
 
-pub returns-then-i-ge16 : goal.returns-then-i-ge16
-returns-then-i-ge16 c = known-none _ _ _ _ _ _ _ c.requires _ c.word_place-j.ensures c.if-j-eq0.true _ c.reading_index-i.ensures c.if-i-ge16.true
+pub returns-in_default : goal.returns-in_default
+returns-in_default c = known-none _ _ _ _ _ _ _ c.requires _ c.word_place-j.ensures c.if-j-eq0.true _ refl c.in_default.ensures
 
 pub bounds-floats-i : goal.bounds-floats-i
 bounds-floats-i c = omega arith
@@ -17,7 +17,7 @@ pub tested-requires : goal.tested-requires
 tested-requires c = omega arith
 
 pub returns-then-j-eq0 : goal.returns-then-j-eq0
-returns-then-j-eq0 c = known-reading _ _ _ _ _ _ _ c.requires _ c.word_place-j.ensures c.if-j-eq0.true _ c.reading_index-i.ensures c.if-i-ge16.false _ c.tested.ensures
+returns-then-j-eq0 c = known-reading _ _ _ _ _ _ _ c.requires _ c.word_place-j.ensures c.if-j-eq0.true _ c.in-Some.ensures.0 c.in-Some.ensures.1 _ c.tested.ensures
 
 pub bounds-kinds-j : goal.bounds-kinds-j
 bounds-kinds-j c = omega (arith, c.word_place-j.ensures.most)
