@@ -2,13 +2,16 @@
 use Prim.Native.Nat.{ℕ, zero, suc, ◌+◌, ◌<◌, ◌≤◌}
 use native.Mathlib.Numerals.{add-one}
 use native.Mathlib.Omega.{arith}
-use mathlib.Core.Path.{◌≡◌, refl, sym, ap, ap₂, ◌∙◌}
+use mathlib.Core.Path.{◌≡◌, refl, sym, ap, ap₂, subst, ◌∙◌}
 use mathlib.Core.Logic.{◌⊎◌, inl, inr}
 use mathlib.Core.Bool.{Bool, true, false, ◌&&◌, true≢false}
 use Rattle.std.proofs.Math.Bool.{and-false}
 use mathlib.Core.List.{List}
 use lib.Dec.{eqb, ltb}
-use lib.ListN.{get_or}
+use lib.ListN.{length, get_or}
+use Rattle.std.specs.Bool.{MatchBool}
+use Rattle.std.specs.List.{range_with_len, AllWithin, HoldsAt}
+use Rattle.std.proofs.lemmas.List.FromFn.{length-range_with_len, get_or-range_with_len}
 use lib.Ieee as Ieee
 use lib.Ieee.{Float, binary64}
 use lib.Ieee.Fits.{add-fits}
@@ -28,6 +31,9 @@ use Rattle.sheets.specs.code.run.Apart.{metres_at, clear_at, clear_below, apart_
 use Rattle.sheets.proofs.ApartLaws.{distance-comm, clear-two, not-clear, every_two, some-two}
 use Rattle.sheets.proofs.Bools.{and_both, and-some}
 
+place-at : (n q : ℕ) → q < n → get_or (range_with_len 0 n) q 0 ≡ q
+place-at n q l = let e = get_or-range_with_len 0 n q 0 l in e ∙ omega arith
+
 module _ (least : Float) (f : List Float) (js : List Bool) where
   -- ---- one place
 
@@ -46,23 +52,28 @@ module _ (least : Float) (f : List Float) (js : List Bool) where
 
   -- ---- the places below
 
-  pub clear-none : (v : Vec3) → clear_below least v f js 0 ≡ true
+  clear-each : (v : Vec3) (n : ℕ) → ((q : ℕ) → q < n → true ≡ clear_at least v f js q) → true ≡ clear_below least v f js n
   unfolding clear_below
-  clear-none v = refl
+  clear-each v zero h = refl
+  clear-each v (suc n) h = ap₂ (λ (a b : Bool). a && b) (h n (omega arith)) (clear-each v n (λ q l. h q (omega arith)))
 
-  module _ (v : Vec3) (q : ℕ) (c : Bool) (ec : c ≡ clear_at least v f js q) where
-    pub clear-next : c ≡ true → clear_below least v f js q ≡ true → clear_below least v f js (q + 1) ≡ true
-    unfolding clear_below
-    clear-next h i = ap (clear_below least v f js) (add-one q) ∙ ap (λ (z : Bool). z && clear_below least v f js q) (sym ec ∙ h) ∙ i
+  clear-broken : (v : Vec3) (q : ℕ) → false ≡ clear_at least v f js q → (n : ℕ) → q < n → false ≡ clear_below least v f js n
+  unfolding clear_below
+  clear-broken v q h zero l = absurd (omega arith)
+  clear-broken v q h (suc n) l = go (eqb q n) refl (clear-broken v q h n)
+    where
+      go : (b : Bool) → eqb q n ≡ b → (q < n → false ≡ clear_below least v f js n) → false ≡ clear_below least v f js (suc n)
+      go true e r = ap (λ (z : Bool). z && clear_below least v f js n) (h ∙ ap (clear_at least v f js) (eqb-true q n e))
+      go false e r = let d : (q ≡ n → ⊥) = eqb-false q n e in sym (and-false (clear_at least v f js n)) ∙ ap (λ (z : Bool). clear_at least v f js n && z) (r (omega arith))
 
-    pub clear-broken : c ≡ false → (p : ℕ) → q < p → false ≡ clear_below least v f js p
-    unfolding clear_below
-    clear-broken h zero l = absurd (omega arith)
-    clear-broken h (suc p) l = go (eqb q p) refl (clear-broken h p)
-      where
-        go : (b : Bool) → eqb q p ≡ b → (q < p → false ≡ clear_below least v f js p) → false ≡ clear_below least v f js (suc p)
-        go true e r = sym (ap (λ (z : Bool). z && clear_below least v f js p) (ap (clear_at least v f js) (sym (eqb-true q p e)) ∙ sym ec ∙ h))
-        go false e r = let n : (q ≡ p → ⊥) = eqb-false q p e in sym (and-false (clear_at least v f js p)) ∙ ap (λ (z : Bool). clear_at least v f js p && z) (r (omega arith))
+  -- what `all` answers of the places below n
+  pub clear-decided : (v : Vec3) (n : ℕ) (r : Bool)
+      → MatchBool r (AllWithin (λ q. true ≡ clear_at least v f js q) (range_with_len 0 n) 0 (length (range_with_len 0 n))) ((k : ℕ) × (k < length (range_with_len 0 n)) × HoldsAt (λ q. false ≡ clear_at least v f js q) (range_with_len 0 n) k)
+      → r ≡ clear_below least v f js n
+  clear-decided v n true h = clear-each v n (λ q l. subst (λ j. true ≡ clear_at least v f js j) (place-at n q l) (h q 0 (omega arith) (omega (arith, length-range_with_len 0 n))))
+  clear-decided v n false (k, l, h) =
+      let few : k < n = omega (arith, length-range_with_len 0 n) in
+      clear-broken v k (subst (λ j. false ≡ clear_at least v f js j) (place-at n k few) (h 0)) n few
 
   -- ---- every two of the places below
 

@@ -2,22 +2,18 @@
 use Prim.Native.Nat.{ℕ, zero, suc, ◌+◌, ◌-◌, ◌<◌, ◌≤◌}
 use native.Mathlib.Omega.{arith}
 use mathlib.Core.Path.{◌≡◌, refl, sym, ap, ◌∙◌}
-use mathlib.Core.Bool.{Bool, true, false}
 use mathlib.Core.Logic.{inl, inr}
 use mathlib.Core.List.{List, [], ◌∷◌, ◌++◌}
-use lib.Dec.{eqb}
-use lib.ListN.{length, get_or, set}
-use lib.Seq.{get_or-set_same, get_or-set_other}
+use lib.ListN.{length, get_or}
 use lib.Ieee.{Float, nan}
 use types.Run.{OneOf}
-use borrow.Author.Tests.{eqb-true, eqb-false}
 use Rattle.frames.specs.declared.Orientation.{Orientation}
 use Rattle.frames.specs.declared.Orientation.TheVariants.{Enu, Ned, Body, Wan}
 use Rattle.sheets.specs.Kinds.{Kind, vector, frame}
 use Rattle.sheets.specs.Limits.{all_near, in_limit}
 use Rattle.sheets.specs.code.rows.KindCodes.{kind_at}
-use Rattle.sheets.specs.code.run.Floats.{float_at, value_at, lay, KeptBelow, Copied}
-use Rattle.sheets.proofs.run.FloatLaws.{kept_refl, kept_trans, kept_set, lay-append}
+use Rattle.sheets.specs.code.run.Floats.{float_at, value_at, lay, Copied}
+use Rattle.sheets.proofs.run.FloatLaws.{lay-append}
 
 -- ---- kinds by a number
 

@@ -2,13 +2,12 @@
 use Prim.Native.Nat.{ℕ, ◌+◌, ◌-◌, ◌≤◌}
 use native.Mathlib.Nat.{add-zero}
 use native.Mathlib.Omega.{arith}
-use mathlib.Core.Path.{◌≡◌, refl, sym, ap, subst, ◌∙◌}
+use mathlib.Core.Path.{◌≡◌, refl, sym, ap, ◌∙◌}
 use mathlib.Core.Bool.{Bool, true, false, not}
 use mathlib.Core.List.{List, [], ◌∷◌, ◌++◌, append_assoc}
 use borrow.Author.Tests.{le-leb, leb-true, not-true, not-false}
 use lib.Dec.{leb}
-use lib.ListN.{length, take, length-append}
-use lib.Ieee.{Float}
+use lib.ListN.{length, length-append}
 use Rattle.numbers.specs.declared.Length.{Length}
 use Rattle.sheets.specs.declared.Value.{Value}
 use Rattle.sheets.specs.declared.Value.TheVariants.{Metres}
@@ -27,7 +26,7 @@ use Rattle.sheets.proofs.run.WritingLaws.{length-laid, laid_more, written_then, 
 
 pub fitting-is : (n from end m at : ℕ) → from ≤ end → end ≤ n → end - from ≤ 12 → at + 223 ≤ m → fitting n from end m at ≡ true
 unfolding fitting
-fitting-is n from end m at a b c d = rw (le-leb from end a, le-leb end n b, le-leb (end - from) 12 c, le-leb (at + 223) m d) refl
+fitting-is n from end m at a b c d = rw (le-leb from end a, le-leb end n b, le-leb (end - from) 12 c, le-leb 223 (m - at) (omega arith)) refl
 
 fitting-told : (n from end m at : ℕ) → fitting n from end m at ≡ true → (from ≤ end) × (end ≤ n) × (end - from ≤ 12) × (at + 223 ≤ m)
 unfolding fitting
@@ -35,7 +34,7 @@ fitting-told n from end m at e =
     let (a, e₁) = and_both (leb from end) _ e in
     let (b, e₂) = and_both (leb end n) _ e₁ in
     let (c, d) = and_both (leb (end - from) 12) _ e₂ in
-    (leb-true from end a, leb-true end n b, leb-true (end - from) 12 c, leb-true (at + 223) m d)
+    (leb-true from end a, leb-true end n b, leb-true (end - from) 12 c, omega (arith, leb-true 223 (m - at) d))
 
 -- what a line's name and buffer are where the test was passed
 pub room-told : (ok : Bool) (s : List ℕ) (from end : ℕ) (d : List ℕ) (at : ℕ) → ok ≡ room s from end d at → not ok ≡ false
@@ -66,12 +65,12 @@ module _ (s : List ℕ) (from end : ℕ) (x : Value) (ok b : Bool) (e : ok ≡ b
       rw (sym e ∙ not-false ok h, ← append_assoc n t (10 ∷ [])) (written_then w (32 ∷ m) p (written_then (32 ∷ []) m q (written_then (n ++ t) (10 ∷ []) u v)))
 
 -- a total's line
-pub total-whole : (t : Length) (ok b : Bool) → ok ≡ b → not ok ≡ false → (row : List Float) → take 1 row ≡ t.0 ∷ [] → {d d₁ d₂ f : List ℕ} {at i k r : ℕ}
-    → Written d at (ascii "total l") d₁ i → Written d₁ i (fields_text (take 1 row)) d₂ k → Written d₂ k (10 ∷ []) f r → Written d at (line_if b (ascii "total") 0 5 (Metres t)) f r
+pub total-whole : (t : Length) (ok b : Bool) → ok ≡ b → not ok ≡ false → {d d₁ d₂ f : List ℕ} {at i k r : ℕ}
+    → Written d at (ascii "total ") d₁ i → Written d₁ i (108 ∷ fields_text (t.0 ∷ [])) d₂ k → Written d₂ k (10 ∷ []) f r → Written d at (line_if b (ascii "total") 0 5 (Metres t)) f r
 unfolding line_if output_line
-total-whole t ok b e h row er {d} {d₁} {d₂} {f} {at} {i} {k} {r} p q v =
-    let fs = fields_text (t.0 ∷ []) in
-    rw (sym e ∙ not-false ok h) (written_then (ascii "total l") (fs ++ (10 ∷ [])) p (written_then fs (10 ∷ []) (subst (λ xs. Written d₁ i (fields_text xs) d₂ k) er q) v))
+total-whole t ok b e h p q v =
+    let fs = 108 ∷ fields_text (t.0 ∷ []) in
+    rw (sym e ∙ not-false ok h) (written_then (ascii "total ") (fs ++ (10 ∷ [])) p (written_then fs (10 ∷ []) q v))
 
 -- ---- a word that was read
 

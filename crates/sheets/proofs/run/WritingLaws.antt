@@ -45,6 +45,9 @@ laid_more a b d h =
     ∙ ap (λ x. a ++ b ++ x) (drop-append-add a (drop (length a) d) (length b) ∙ drop-drop (length b) (length a) d)
     ∙ ap (λ n. a ++ b ++ drop n d) (sym (length-append a b))
 
+pub laid-first : (b d : List ℕ) → length b ≤ length d → writes d 0 b ≡ laid b d
+laid-first b d h = laid_more [] b d (omega arith)
+
 -- ---- one text after another
 
 pub written_then : (a b : List ℕ) {d e f : List ℕ} {at m r : ℕ} → Written d at a e m → Written e m b f r → Written d at (a ++ b) f r

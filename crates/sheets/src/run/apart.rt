@@ -33,12 +33,7 @@ fn is_clear_below(
     requires { place ≤ 96 }
     ensures { result ≡ clear_below least v floats.now shown.now place }
 {
-    for q in 0..place {
-        if !is_clear(least, v, q, floats, shown) {
-            return false;
-        }
-    }
-    true
+    (0..place).all(|q| is_clear(least, v, q, floats, shown))
 }
 
 // Whether every two names shown are at least so far apart: each with those at the places below its own.

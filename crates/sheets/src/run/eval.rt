@@ -21,10 +21,9 @@ fn known(code: u64, end: usize, names: &Names, floats: &mut [f64; 2940], top: us
     ensures { KnownWith code end names.now floats.old top result floats.new }
 {
     let Some(j) = names.place(code) else {
-        let i = reading_index(code);
-        if 16 <= i {
+        let Some(i) = reading_index(code) else {
             return Evaluated::Sticks;
-        }
+        };
         floats[top] = floats[i];
         return tested(0, floats, top, end);
     };

@@ -1,5 +1,5 @@
 // Fields of an output line: a space and the 16 hexadecimal digits of a double's bits, stored in a lent buffer.
-ghost use Rattle.std.specs.Prelude.{◌≡◌, [], ◌∷◌, ◌+◌, ◌*◌, ◌<◌, ◌≤◌, length, take};
+ghost use Rattle.std.specs.Prelude.{◌≡◌, [], ◌∷◌, ◌+◌, ◌*◌, ◌<◌, ◌≤◌, length};
 ghost use Rattle.sheets.specs.Output.{hex, fields_text};
 ghost use Rattle.sheets.specs.code.run.Writing.{Written};
 
@@ -54,18 +54,18 @@ fn put_field(x: f64, out: &mut [u8], at: usize) -> usize
     requires { at + 17 ≤ length out.old }
     ensures { Written out.old at (fields_text (x ∷ [])) out.new result }
 {
-    let n = put_byte(32, out, at);
+    let n = put_byte(b' ', out, at);
     let b = bits(x);
     put_hex(b, out, n)
 }
 
-// The first `count` of a list of twelve fields.
-pub fn put_fields(row: &[f64; 12], count: usize, out: &mut [u8], at: usize) -> usize
-    requires { (count ≤ 12) × (count ≤ length row.now) × (at + count * 17 ≤ length out.old) }
-    ensures { Written out.old at (fields_text (take count row.now)) out.new result }
+// Fields, one after another.
+pub fn put_fields(fields: &[f64], out: &mut [u8], at: usize) -> usize
+    requires { at + length fields.now * 17 ≤ length out.old }
+    ensures { Written out.old at (fields_text fields.now) out.new result }
 {
     let mut n = at;
-    for x in &row[..count] {
+    for x in fields {
         n = put_field(*x, out, n);
     }
     n

@@ -79,14 +79,14 @@ fn show(
     requires { j ≤ 95 }
     ensures { ShownAs s.now name (found_at x.value floats.now name.code j) j shown.old out.old written result shown.new out.new }
 {
-    let mut v = x.value;
-    if j == 0 {
-        let i = reading_index(name.code);
-        if 16 <= i {
+    let v = if j == 0 {
+        let Some(i) = reading_index(name.code) else {
             return Evaluated::Sticks;
-        }
-        v = Value::Number(floats[i]);
-    }
+        };
+        Value::Number(floats[i])
+    } else {
+        x.value
+    };
     show_value(s, name, v, j, shown, out, written)
 }
 

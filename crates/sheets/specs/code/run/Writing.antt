@@ -1,15 +1,10 @@
 -- No part of what must be believed: what the code that prints a value answers, which ties the code to Output.
-use Rattle.std.specs.Prelude.{ℕ, ◌+◌, ◌-◌, ◌≡◌, Bool, true, false, ◌&&◌, List, [], ◌∷◌, ◌++◌, eqb, leb, ltb, length, get_or, set, take, drop, replicate, Float}
-use Rattle.std.specs.Float.{binary64}
-use Rattle.std.specs.Float.Ieee.{of_bits}
-use Rattle.frames.specs.declared.Orientation.TheVariants.{Enu, Ned, Body, Wan}
+use Rattle.std.specs.Prelude.{ℕ, ◌+◌, ◌-◌, ◌≡◌, Bool, true, false, ◌&&◌, List, [], ◌∷◌, leb, length, set, take, drop}
 use Rattle.numbers.specs.declared.Length.{Length}
 use Rattle.sheets.specs.declared.Value.{Value}
 use Rattle.sheets.specs.declared.Value.TheVariants.{Metres}
 use Rattle.sheets.specs.Text.{ascii, ◌⌢◌}
-use Rattle.sheets.specs.Kinds.{kind_of, orientation_name, kind_name}
-use Rattle.sheets.specs.Table.{when}
-use Rattle.sheets.specs.code.rows.KindCodes.{kind_at}
+use Rattle.sheets.specs.Kinds.{kind_of, kind_name}
 use Rattle.sheets.specs.Output.{fields, fields_text, output_line}
 
 -- a buffer after bytes were stored one by one from a place on
@@ -26,36 +21,13 @@ pub record Written (d : List ℕ) (at : ℕ) (text : List ℕ) (d' : List ℕ) (
 abbrev pub part : List ℕ → ℕ → ℕ → List ℕ
 part s from end = take (end - from) (drop from s)
 
-abbrev pub zero64 : Float
-zero64 = of_bits binary64 0
-
--- the value's fields, and 0 behind them up to twelve
-unfoldable pub padded : Value → List Float
-padded x = fields x ++ replicate (12 - length (fields x)) zero64
-
--- how many fields a value of the kind with this code has
-unfoldable pub field_count : ℕ → ℕ
-field_count k = when (ltb k 3) 1 (when (eqb k 4) 4 (when (ltb k 9) 3 12))
-
--- the letter of a kind without an orientation, by its code
-unfoldable pub plain_letter : ℕ → ℕ
-plain_letter k = get_or (110 ∷ 97 ∷ 108 ∷ 103 ∷ []) k 100
-
--- the name of an orientation, by its place
-unfoldable pub orientation_text : ℕ → List ℕ
-orientation_text p = orientation_name (get_or (Enu ∷ Ned ∷ Body ∷ []) p Wan)
-
--- the name of the kind with this code
-unfoldable pub kind_text : ℕ → List ℕ
-kind_text k = kind_name (kind_at k)
-
 -- kind and fields
 unfoldable pub value_text : Value → List ℕ
 value_text x = kind_name (kind_of x) ⌢ fields_text (fields x)
 
 -- the name is a part of at most 12 bytes of a sheet of n bytes, and the longest line of such a name, 223 bytes, has room in a buffer of m
 unfoldable pub fitting : ℕ → ℕ → ℕ → ℕ → ℕ → Bool
-fitting n from end m at = leb from end && (leb end n && (leb (end - from) 12 && leb (at + 223) m))
+fitting n from end m at = leb from end && (leb end n && (leb (end - from) 12 && leb 223 (m - at)))
 
 -- whether a line is written
 abbrev pub room : List ℕ → ℕ → ℕ → List ℕ → ℕ → Bool

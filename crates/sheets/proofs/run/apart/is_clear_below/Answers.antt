@@ -1,12 +1,16 @@
 -- `sheets::run::apart::is_clear_below` meets its contract. Assumes nothing.
-use Rattle.sheets.proofs.run.ApartSteps.{clear-none, clear-next, clear-broken}
+use native.Mathlib.Omega.{arith}
+use mathlib.Core.Path.{◌≡◌, refl}
+use mathlib.Core.Bool.{true, false}
+use borrow.Author.Rules.{rules}
+use borrow.Author.Tests.{tests}
+use Rattle.std.proofs.lemmas.Iterator.{cases_from_all, YieldsList-from_range}
+use Rattle.sheets.specs.code.run.Apart.{clear_at}
+use Rattle.sheets.proofs.run.ApartSteps.{clear-decided}
 use Rattle.sheets.proofs.run.apart.is_clear_below.Goals as goal
 
-pub loop-q-init : goal.loop-q-init
-loop-q-init c = clear-none _ _ _ _
-
-pub returns-then-not-is_clear : goal.returns-then-not-is_clear
-returns-then-not-is_clear c = clear-broken _ _ _ _ _ c.is_clear.result c.is_clear.ensures c.if-not-is_clear.true _ c.loop-q-test.true
-
-pub loop-q-preserved : goal.loop-q-preserved
-loop-q-preserved c = clear-next _ _ _ _ _ c.is_clear.result c.is_clear.ensures c.if-not-is_clear.false c.loop-q.invariant
+pub returns : goal.returns
+returns c =
+    clear-decided _ _ _ _ c.args.place c.all.result
+    (cases_from_all _ _ _ (λ q. true ≡ clear_at c.args.least c.args.v c.args.floats.now c.args.shown.now q) (λ q. false ≡ clear_at c.args.least c.args.v c.args.floats.now c.args.shown.now q)
+    c.all.ensures.ran (YieldsList-from_range 0 c.args.place c.args.place refl (omega arith)) (λ x q k. search (rules, tests)) (λ x q k. search (rules, tests)))

@@ -1,8 +1,6 @@
 -- `sheets::run::fields::put_fields` meets its contract. Assumes nothing.
 use mathlib.Core.Path.{refl, ◌∙◌}
 use native.Mathlib.Omega.{arith}
-use lib.ListN.{take}
-use lib.Seq.{length-take-le}
 use Rattle.std.proofs.lemmas.List.{take_all}
 use Rattle.sheets.proofs.run.WritingLaws.{none-written}
 use Rattle.sheets.proofs.run.ValueText.{fields-turn}
@@ -11,13 +9,10 @@ use Rattle.sheets.proofs.run.fields.put_fields.Goals as goal
 pub loop-x-init : goal.loop-x-init
 loop-x-init c = (omega arith, refl, none-written _ _)
 
-pub put_field-n-requires : goal.put_field-n-requires
-put_field-n-requires c = omega (arith, length-take-le c.args.count c.args.row.now c.requires.1)
-
 pub loop-x-preserved : goal.loop-x-preserved
 loop-x-preserved c =
-    let t = fields-turn (take c.args.count c.args.row.now) c.loop-x.x-index (omega arith) c.loop-x.invariant.0 c.loop-x.invariant.2 c.put_field-n.ensures in
+    let t = fields-turn c.args.fields.now c.loop-x.x-index c.loop-x-test.true c.loop-x.invariant.0 c.loop-x.invariant.2 c.put_field-n.ensures in
     (t.0, c.put_field-n.auto.out ∙ c.loop-x.invariant.1, t.1)
 
 pub returns : goal.returns
-returns c = rw (take_all c.loop-x.x-index (take c.args.count c.args.row.now) c.loop-x-test.false) at c.loop-x.invariant.2
+returns c = rw (take_all c.loop-x.x-index c.args.fields.now c.loop-x-test.false) at c.loop-x.invariant.2

@@ -1,19 +1,32 @@
 -- `sheets::run::text::put_value` meets its contract. Assumes nothing.
-use native.Mathlib.Omega.{arith}
-use Rattle.sheets.proofs.run.ValueText.{name-small, count_small, value_written}
+use Rattle.sheets.specs.code.run.Writing.{value_text}
+use Rattle.sheets.proofs.run.ValueText.{value-told}
 use Rattle.sheets.proofs.run.text.put_value.Goals as goal
 
-pub put_kind-i-requires : goal.put_kind-i-requires
-put_kind-i-requires c = omega arith
+pub returns-in-Number : goal.returns-in-Number
+unfolding value_text
+returns-in-Number c = value-told c.in-Number.is c.put_plain.ensures
 
-pub put_fields-requires : goal.put_fields-requires
-put_fields-requires c =
-    let v = c.args.v in
-    let n = name-small v c.kind_of-kind.result c.kind_of-kind.ensures in
-    let m = count_small v c.kind_of-kind.result c.kind_of-kind.ensures c.fields_of-row.result c.fields_of-row.ensures in
-    let e = c.field_count-count.ensures in
-    (omega (arith, m.0, e), omega (arith, m.1, e), omega (arith, m.0, e, n, c.put_kind-i.ensures.end, c.put_kind-i.auto.out))
+pub returns-in-Radians : goal.returns-in-Radians
+unfolding value_text
+returns-in-Radians c = value-told c.in-Radians.is c.put_plain-in-Radians.ensures
 
-pub returns : goal.returns
-returns c =
-    value_written c.args.v c.kind_of-kind.result c.kind_of-kind.ensures c.field_count-count.result c.fields_of-row.result c.field_count-count.ensures c.fields_of-row.ensures c.put_kind-i.ensures c.put_fields.ensures
+pub returns-in-Metres : goal.returns-in-Metres
+unfolding value_text
+returns-in-Metres c = value-told c.in-Metres.is c.put_plain-in-Metres.ensures
+
+pub returns-in-Geocentric : goal.returns-in-Geocentric
+unfolding value_text
+returns-in-Geocentric c = value-told c.in-Geocentric.is c.put_plain-in-Geocentric.ensures
+
+pub returns-in-Geodetic : goal.returns-in-Geodetic
+unfolding value_text
+returns-in-Geodetic c = value-told c.in-Geodetic.is c.put_plain-in-Geodetic.ensures
+
+pub returns-in-Vector : goal.returns-in-Vector
+unfolding value_text
+returns-in-Vector c = value-told c.in-Vector.is c.put_oriented.ensures
+
+pub returns-in-Frame : goal.returns-in-Frame
+unfolding value_text
+returns-in-Frame c = value-told c.in-Frame.is c.put_oriented-in-Frame.ensures
