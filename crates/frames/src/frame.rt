@@ -66,6 +66,7 @@ impl LocalFrame {
     }
 
     // A vehicle's body.
+    // Yaw, pitch and roll stay three arguments, here and in `transform`: callers have them apart, and would build a `Zyx` only to have it taken apart.
     #[tactic(auto, unfolding(crate::specs::Frames::new_ned, crate::specs::Frames::new_body))]
     pub fn body<P: Position>(
         yaw: Angle,
@@ -89,7 +90,7 @@ impl LocalFrame {
         ned.turned(delta.bearing(), delta.elevation(), roll)
     }
 
-    // The body frame at this north-east-down frame's origin.
+    // The body frame at the origin of `self`, which is north-east-down.
     fn turned(self, yaw: Angle, pitch: Angle, roll: Angle) -> Self
         ensures { result ≡ by_direction Body self.origin (mat_mul self.dir_rm (zyx2r yaw pitch roll)) }
     {
