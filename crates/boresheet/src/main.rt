@@ -82,7 +82,7 @@ fn run_file(rt: &HostRuntime, name: &[u8]) {
     }
 }
 
-// Why an argument was not read.
+// Why an argument was not read. No From: both types are std's.
 fn argument_error(e: FillError) -> io::Error {
     match e {
         FillError::NotPresent => io::Error::from_raw_os_error(EINVAL),

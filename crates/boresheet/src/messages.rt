@@ -20,7 +20,7 @@ fn push_decimal(text: &mut Line, n: u64)
     text.push_str(digits.format(n));
 }
 
-// A refusal's name by its number, as documents 01 and 02 have it.
+// A refusal's name by its number, as documents 01 and 02 have it. The line says the number too, which is the run's answer.
 #[tactic(auto, unfolding(crate::specs::Messages::refusal_name))]
 fn name(number: u8) -> &'static str
     ensures text { result.now ≡ refusal_name number }
