@@ -1,4 +1,4 @@
--- Whether the names shown stand apart, as the code tells it: a law for each way out of `is_clear`, of the loops of `is_clear_below` and `stand_apart`, and of `apart`; and that it is what the definition says. Assumes nothing.
+-- Whether the names shown stand apart, as the code tells it: a law for each way out of `is_clear`, `is_clear_below`, the loop of `stand_apart`, and `apart`; and that it is what the definition says. Assumes nothing.
 use Prim.Native.Nat.{ℕ, zero, suc, ◌+◌, ◌<◌, ◌≤◌}
 use native.Mathlib.Numerals.{add-one}
 use native.Mathlib.Omega.{arith}

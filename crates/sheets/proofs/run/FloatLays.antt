@@ -1,18 +1,18 @@
--- Values as floats on a list: kinds by a number, floats stored in parts, and floats copied one by one. Assumes nothing.
-use Prim.Native.Nat.{ℕ, zero, suc, ◌+◌, ◌-◌, ◌<◌, ◌≤◌}
+-- Values as floats on a list: kinds by a number; floats stored in parts. Assumes nothing.
+use Prim.Native.Nat.{ℕ, zero, suc, ◌+◌, ◌-◌, ◌≤◌}
 use native.Mathlib.Omega.{arith}
 use mathlib.Core.Path.{◌≡◌, refl, sym, ap, ◌∙◌}
 use mathlib.Core.Logic.{inl, inr}
 use mathlib.Core.List.{List, [], ◌∷◌, ◌++◌}
 use lib.ListN.{length, get_or}
-use lib.Ieee.{Float, nan}
+use lib.Ieee.{Float}
 use types.Run.{OneOf}
 use Rattle.frames.specs.declared.Orientation.{Orientation}
 use Rattle.frames.specs.declared.Orientation.TheVariants.{Enu, Ned, Body, Wan}
 use Rattle.sheets.specs.Kinds.{Kind, vector, frame}
 use Rattle.sheets.specs.Limits.{all_near, in_limit}
 use Rattle.sheets.specs.code.rows.KindCodes.{kind_at}
-use Rattle.sheets.specs.code.run.Floats.{float_at, value_at, lay, Copied}
+use Rattle.sheets.specs.code.run.Floats.{float_at, value_at, lay}
 use Rattle.sheets.proofs.run.FloatLaws.{lay-append}
 
 -- ---- kinds by a number
@@ -77,15 +77,3 @@ three-limit (suc (suc (suc (suc (suc n))))) a b d f i = of-each later-kinds (of-
 
 pub laid_then : (f xs ys : List Float) (i j : ℕ) {g h : List Float} → g ≡ lay f i xs → j ≡ i + length xs → h ≡ lay g j ys → h ≡ lay f i (xs ++ ys)
 laid_then f xs ys i j a e b = rw (b, a, e) (sym (lay-append xs ys f i))
-
--- ---- floats copied
-
-pub floats-copied : (f f' : List Float) (from to : ℕ) → length f' ≡ length f
-    → ((k : ℕ) (d : Float) → to ≤ k → k < to + 21 → get_or f' k d ≡ get_or f (from + (k - to)) d) → ((k : ℕ) (d : Float) → k < to → get_or f' k d ≡ get_or f k d) → Copied f from to f'
-floats-copied f f' from to l here below = record {
-  kept = record { size = l; below = λ j h. below j nan h };
-  is = λ lf apart m h. here (to + m) nan (omega arith) (omega arith) ∙ ap (λ k. float_at f (from + k)) (back m);
-}
-  where
-    back : (m : ℕ) → to + m - to ≡ m
-    back m = omega arith
