@@ -46,7 +46,7 @@ pub struct Ellipsoid {
 }
 
 // East-north-up, north-east-down, a vehicle's body, wander azimuth.
-#[derive(Clone, Copy)]
+#[derive(Clone, Copy, PartialEq, Eq, Debug)]
 pub enum Orientation {
     Enu,
     Ned,
