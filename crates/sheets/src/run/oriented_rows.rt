@@ -25,11 +25,11 @@ pub fn vector_row(
 {
     let vector = vector_at(floats, top, o);
     match code {
-        words::NEG => laid(5, rows::apply_neg(e, vector), floats, top, end),
-        words::SWAP => laid(5, rows::apply_swap(e, vector), floats, top, end),
-        words::BEARING => laid(1, rows::apply_bearing(e, vector), floats, top, end),
-        words::ELEV => laid(1, rows::apply_elev(e, vector), floats, top, end),
-        words::RANGE => laid(2, rows::apply_range(e, vector), floats, top, end),
+        words::NEG => laid(rows::apply_neg(e, vector), floats, top, end),
+        words::SWAP => laid(rows::apply_swap(e, vector), floats, top, end),
+        words::BEARING => laid(rows::apply_bearing(e, vector), floats, top, end),
+        words::ELEV => laid(rows::apply_elev(e, vector), floats, top, end),
+        words::RANGE => laid(rows::apply_range(e, vector), floats, top, end),
         _ => Evaluated::Sticks,
     }
 }
@@ -51,7 +51,7 @@ pub fn vectors_row(
     match code {
         words::ADD | words::SUB => {
             let minus = code == words::SUB;
-            laid(5, rows::apply_sum(e, minus, v, w), floats, top, end)
+            laid(rows::apply_sum(e, minus, v, w), floats, top, end)
         }
         _ => Evaluated::Sticks,
     }
@@ -72,7 +72,7 @@ pub fn scale_row(
     let vector = vector_at(floats, top, o);
     let factor = number_at(floats, top + 21);
     if code == words::SCALE {
-        return laid(5, rows::apply_scale(e, vector, factor), floats, top, end);
+        return laid(rows::apply_scale(e, vector, factor), floats, top, end);
     }
     Evaluated::Sticks
 }
@@ -102,10 +102,10 @@ pub fn frame_row(
 {
     let frame = frame_at(floats, top, o);
     match code {
-        words::ORIGIN => laid(3, rows::apply_origin(e, frame), floats, top, end),
+        words::ORIGIN => laid(rows::apply_origin(e, frame), floats, top, end),
         words::RZ | words::RY | words::RX => {
             let axis = axis_in(code);
-            laid(1, rows::apply_angle(e, axis, frame), floats, top, end)
+            laid(rows::apply_angle(e, axis, frame), floats, top, end)
         }
         _ => Evaluated::Sticks,
     }
@@ -126,7 +126,7 @@ pub fn turn_row(
     let frame = frame_at(floats, top, o);
     let angle = angle_at(floats, top + 21);
     if code == words::TURN {
-        return laid(6, frame_rows::apply_turn(e, frame, angle), floats, top, end);
+        return laid(frame_rows::apply_turn(e, frame, angle), floats, top, end);
     }
     Evaluated::Sticks
 }
@@ -146,7 +146,7 @@ pub fn to_row(
     let frame = frame_at(floats, top, o);
     let position = geocentric_at(floats, top + 21);
     if code == words::TO {
-        return laid(5, rows::apply_to(e, frame, position), floats, top, end);
+        return laid(rows::apply_to(e, frame, position), floats, top, end);
     }
     Evaluated::Sticks
 }
@@ -166,7 +166,7 @@ pub fn at_row(
     let frame = frame_at(floats, top, o);
     let vector = vector_at(floats, top + 21, o);
     if code == words::AT {
-        return laid(3, rows::apply_at(e, frame, vector), floats, top, end);
+        return laid(rows::apply_at(e, frame, vector), floats, top, end);
     }
     Evaluated::Sticks
 }
@@ -190,7 +190,6 @@ pub fn move_row(
     let roll = angle_at(floats, top + 84);
     if code == words::MOVE {
         return laid(
-            6,
             frame_rows::apply_move(e, frame, vector, yaw, pitch, roll),
             floats,
             top,

@@ -1,6 +1,5 @@
 // The rows over kinds without an orientation, a function for each list of kinds, P being g or d: the arguments lie as floats, 21 places apart, and the value is laid where the first one lies.
 // So each row is called at values whose kinds are known.
-// The first argument of `laid` is the letter of the row's value, and no kind's code: 1 a, 2 l, 3 g, 4 d, 5 v, 6 f.
 ghost use Rattle.std.specs.Prelude.{◌≡◌, [], ◌∷◌, ◌+◌, ◌≤◌};
 ghost use Rattle.sheets.specs.Kinds.{number, angle, len};
 ghost use Rattle.sheets.specs.code.rows.KindCodes.{kind_at};
@@ -26,8 +25,8 @@ pub fn number_row(
 {
     let number = number_at(floats, top);
     match code {
-        words::DEG => laid(1, rows::apply_deg(e, number), floats, top, end),
-        words::M => laid(2, rows::apply_m(e, number), floats, top, end),
+        words::DEG => laid(rows::apply_deg(e, number), floats, top, end),
+        words::M => laid(rows::apply_m(e, number), floats, top, end),
         _ => Evaluated::Sticks,
     }
 }
@@ -59,10 +58,10 @@ pub fn lengths_row(
     let y = length_at(floats, top + 21);
     let z = length_at(floats, top + 42);
     match code {
-        words::GEO => laid(3, rows::apply_geo(e, x, y, z), floats, top, end),
+        words::GEO => laid(rows::apply_geo(e, x, y, z), floats, top, end),
         words::VENU | words::VNED | words::VBODY | words::VWAN => {
             let o = orientation_in(code);
-            laid(5, rows::apply_vector(e, o, x, y, z), floats, top, end)
+            laid(rows::apply_vector(e, o, x, y, z), floats, top, end)
         }
         _ => Evaluated::Sticks,
     }
@@ -84,7 +83,6 @@ pub fn aer_row(
     let range = length_at(floats, top + 42);
     match code {
         words::LLA => laid(
-            4,
             rows::apply_lla(e, azimuth, elevation, range),
             floats,
             top,
@@ -93,7 +91,6 @@ pub fn aer_row(
         words::AENU | words::ANED | words::ABODY | words::AWAN => {
             let o = orientation_in(code);
             laid(
-                5,
                 rows::apply_aer(e, o, azimuth, elevation, range),
                 floats,
                 top,
@@ -118,17 +115,11 @@ pub fn position_row(
 {
     let position = value_at(kind, floats, top);
     match code {
-        words::TOGEO => laid(3, frame_rows::apply_togeo(e, position), floats, top, end),
-        words::TOLLA => laid(4, frame_rows::apply_tolla(e, position), floats, top, end),
+        words::TOGEO => laid(frame_rows::apply_togeo(e, position), floats, top, end),
+        words::TOLLA => laid(frame_rows::apply_tolla(e, position), floats, top, end),
         words::ENU | words::NED => {
             let ned = code == words::NED;
-            laid(
-                6,
-                frame_rows::apply_level(e, ned, position),
-                floats,
-                top,
-                end,
-            )
+            laid(frame_rows::apply_level(e, ned, position), floats, top, end)
         }
         _ => Evaluated::Sticks,
     }
@@ -150,7 +141,6 @@ pub fn wan_row(
     let position = value_at(kind, floats, top + 21);
     if code == words::WAN {
         return laid(
-            6,
             frame_rows::apply_wan(e, azimuth, position),
             floats,
             top,
@@ -178,7 +168,6 @@ pub fn body_row(
     let position = value_at(kind, floats, top + 63);
     if code == words::BODY {
         return laid(
-            6,
             frame_rows::apply_body(e, yaw, pitch, roll, position),
             floats,
             top,
@@ -205,7 +194,6 @@ pub fn look_row(
     let roll = angle_at(floats, top + 42);
     if code == words::LOOK {
         return laid(
-            6,
             frame_rows::apply_look(e, position, target, roll),
             floats,
             top,

@@ -1,5 +1,6 @@
 -- `sheets::run::oriented_rows::at_row` meets its contract. Assumes nothing.
 use mathlib.Core.List.{[], ◌∷◌}
+use Rattle.sheets.specs.declared.Value.TheVariants.{Geocentric}
 use Rattle.sheets.specs.Text.{ascii}
 use Rattle.sheets.specs.code.reader.Codes.{word_char, code_from, code_of}
 use Rattle.sheets.specs.Table.{table}
@@ -9,7 +10,7 @@ use Rattle.sheets.proofs.run.oriented_rows.at_row.Goals as goal
 
 pub returns-then-code-eq-AT : goal.returns-then-code-eq-AT
 unfolding table word_char code_from
-returns-then-code-eq-AT c = row_laid (ascii "at") tt 3 tt _ _ _ _ _ _ _ (two_at _ _ _ _ c.frame_at-frame.ensures c.vector_at-vector.ensures) _ c.apply_at.ensures _ _ c.laid.ensures c.if-code-eq-AT.true
+returns-then-code-eq-AT c = row_laid (ascii "at") tt Geocentric _ _ _ _ _ _ _ (two_at _ _ _ _ c.frame_at-frame.ensures c.vector_at-vector.ensures) _ c.apply_at.ensures _ _ c.laid.ensures c.if-code-eq-AT.true
 
 pub returns : goal.returns
 unfolding kind_rows table word_char code_from

@@ -1,5 +1,6 @@
 -- `sheets::run::oriented_rows::to_row` meets its contract. Assumes nothing.
 use mathlib.Core.List.{[], ◌∷◌}
+use Rattle.sheets.specs.declared.Value.TheVariants.{Vector}
 use Rattle.sheets.specs.Text.{ascii}
 use Rattle.sheets.specs.code.reader.Codes.{word_char, code_from, code_of}
 use Rattle.sheets.specs.Table.{table}
@@ -9,7 +10,7 @@ use Rattle.sheets.proofs.run.oriented_rows.to_row.Goals as goal
 
 pub returns-then-code-eq-TO : goal.returns-then-code-eq-TO
 unfolding table word_char code_from
-returns-then-code-eq-TO c = row_laid (ascii "to") tt 5 tt _ _ _ _ _ _ _ (two_at _ _ _ _ c.frame_at-frame.ensures c.geocentric_at-position.ensures) _ c.apply_to.ensures _ _ c.laid.ensures c.if-code-eq-TO.true
+returns-then-code-eq-TO c = row_laid (ascii "to") tt Vector _ _ _ _ _ _ _ (two_at _ _ _ _ c.frame_at-frame.ensures c.geocentric_at-position.ensures) _ c.apply_to.ensures _ _ c.laid.ensures c.if-code-eq-TO.true
 
 pub returns : goal.returns
 unfolding kind_rows table word_char code_from

@@ -1,5 +1,6 @@
 -- `sheets::run::plain_rows::look_row` meets its contract. Assumes nothing.
 use mathlib.Core.List.{[], ◌∷◌}
+use Rattle.sheets.specs.declared.Value.TheVariants.{Frame}
 use Rattle.sheets.specs.Text.{ascii}
 use Rattle.sheets.specs.Table.{table}
 use Rattle.sheets.specs.Lookup.{kind_rows}
@@ -9,7 +10,7 @@ use Rattle.sheets.proofs.run.plain_rows.look_row.Goals as goal
 
 pub returns-then-code-eq-LOOK : goal.returns-then-code-eq-LOOK
 unfolding table word_char code_from
-returns-then-code-eq-LOOK c = row_laid (ascii "look") tt 6 tt _ _ _ _ _ _ _ (three-at _ _ _ _ _ c.value_at-position.ensures c.value_at-target.ensures c.angle_at-roll.ensures) _ c.apply_look.ensures _ _ c.laid.ensures c.if-code-eq-LOOK.true
+returns-then-code-eq-LOOK c = row_laid (ascii "look") tt Frame _ _ _ _ _ _ _ (three-at _ _ _ _ _ c.value_at-position.ensures c.value_at-target.ensures c.angle_at-roll.ensures) _ c.apply_look.ensures _ _ c.laid.ensures c.if-code-eq-LOOK.true
 
 pub returns : goal.returns
 unfolding kind_rows table word_char code_from
