@@ -25,10 +25,9 @@ pub(crate) enum Value {
     Frame(LocalFrame),
 }
 
-// What an operator makes of its arguments: a value, nothing as no row fits, or nothing as the position is too near the centre.
-#[derive(Clone, Copy)]
-pub(crate) enum Applied {
-    Value(Value),
+// Why an operator makes nothing of its arguments: no row of the kind table fits them, or the position is too near the centre.
+#[derive(Clone, Copy, PartialEq, Eq, Debug)]
+pub(crate) enum Unapplied {
     NoRow,
     Centre,
 }

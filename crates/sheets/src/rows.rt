@@ -1,5 +1,5 @@
 // The rows of the kind table, by values and by kinds, and the limits of values.
-// Here stand the rows that make a plain value or a vector, and those that read a vector or a frame: each at values of the row's kinds.
+// Here stand the rows that make a plain value or a vector, and those that read a vector or a frame: each takes values, and gives what a value of the row's kind holds.
 pub(crate) mod args;
 pub(crate) mod frame_rows;
 pub(crate) mod kinds;
@@ -8,66 +8,74 @@ pub(crate) mod value;
 
 ghost use Rattle.std.specs.Prelude.{◌≡◌, [], ◌∷◌};
 ghost use Rattle.sheets.specs.Text.{ascii};
-ghost use Rattle.sheets.specs.Table.{table};
-ghost use Rattle.sheets.specs.Lookup.{find};
-ghost use Rattle.sheets.specs.code.rows.Applied.{applied, vector_word, aer_word, sum_word, axis_word};
+ghost use Rattle.sheets.specs.declared.Value.TheVariants.{Radians, Metres, Geocentric, Geodetic, Vector};
+ghost use Rattle.sheets.specs.code.rows.Applied.{RowGives, vector_word, aer_word, sum_word, axis_word};
 
-use crate::rows::args::{
-    Aer, Axis, Lengths, aer_of, enu_or_ned, gives_angle, gives_geocentric, gives_geodetic,
-    gives_length, gives_vector, lengths_of, same_orientation,
-};
-use crate::{Applied, Value};
+use crate::rows::args::Axis;
+use crate::{Unapplied, Value};
 use frames::rotation::r2zyx;
-use frames::{Ellipsoid, GeocentricPosition, GeodeticPosition, LocalVector, NVector, Orientation};
+use frames::{
+    Ellipsoid, GeocentricPosition, GeodeticPosition, LocalFrame, LocalVector, NVector, Orientation,
+};
 use numbers::{Angle, Length};
 
-pub fn apply_deg(e: Ellipsoid, degrees: Value) -> Applied
-    ensures { result ≡ applied e (find table (ascii "deg") (degrees ∷ [])) }
+pub fn apply_deg(e: Ellipsoid, degrees: Value) -> Result<Angle, Unapplied>
+    ensures { RowGives Radians e (ascii "deg") (degrees ∷ []) result }
 {
-    let Value::Number(n) = degrees else {
-        return Applied::NoRow;
-    };
-    gives_angle(Angle::from_degrees(n))
+    let n = f64::try_from(degrees)?;
+    Ok(Angle::from_degrees(n))
 }
 
-pub fn apply_m(e: Ellipsoid, metres: Value) -> Applied
-    ensures { result ≡ applied e (find table (ascii "m") (metres ∷ [])) }
+pub fn apply_m(e: Ellipsoid, metres: Value) -> Result<Length, Unapplied>
+    ensures { RowGives Metres e (ascii "m") (metres ∷ []) result }
 {
-    let Value::Number(n) = metres else {
-        return Applied::NoRow;
-    };
-    gives_length(Length::from_metres(n))
+    let n = f64::try_from(metres)?;
+    Ok(Length::from_metres(n))
 }
 
-pub fn apply_geo(e: Ellipsoid, x: Value, y: Value, z: Value) -> Applied
-    ensures { result ≡ applied e (find table (ascii "geo") (x ∷ y ∷ z ∷ [])) }
+pub fn apply_geo(
+    e: Ellipsoid,
+    x: Value,
+    y: Value,
+    z: Value,
+) -> Result<GeocentricPosition, Unapplied>
+    ensures { RowGives Geocentric e (ascii "geo") (x ∷ y ∷ z ∷ []) result }
 {
-    match lengths_of(x, y, z) {
-        Lengths::Are(lx, ly, lz) => gives_geocentric(GeocentricPosition::new(lx, ly, lz)),
-        Lengths::Not => Applied::NoRow,
-    }
+    let x = Length::try_from(x)?;
+    let y = Length::try_from(y)?;
+    let z = Length::try_from(z)?;
+    Ok(GeocentricPosition::new(x, y, z))
 }
 
-pub fn apply_lla(e: Ellipsoid, latitude: Value, longitude: Value, height: Value) -> Applied
-    ensures { result ≡ applied e (find table (ascii "lla") (latitude ∷ longitude ∷ height ∷ [])) }
+pub fn apply_lla(
+    e: Ellipsoid,
+    latitude: Value,
+    longitude: Value,
+    height: Value,
+) -> Result<GeodeticPosition, Unapplied>
+    ensures { RowGives Geodetic e (ascii "lla") (latitude ∷ longitude ∷ height ∷ []) result }
 {
-    match aer_of(latitude, longitude, height) {
-        Aer::Are(lat, lon, h) => {
-            let n = NVector::from_lat_long(lat, lon);
-            gives_geodetic(GeodeticPosition::new(n, h))
-        }
-        Aer::Not => Applied::NoRow,
-    }
+    let latitude = Angle::try_from(latitude)?;
+    let longitude = Angle::try_from(longitude)?;
+    let height = Length::try_from(height)?;
+    let n = NVector::from_lat_long(latitude, longitude);
+    Ok(GeodeticPosition::new(n, height))
 }
 
 // venu, vned, vbody, vwan
-pub fn apply_vector(e: Ellipsoid, o: Orientation, x: Value, y: Value, z: Value) -> Applied
-    ensures { result ≡ applied e (find table (vector_word o) (x ∷ y ∷ z ∷ [])) }
+pub fn apply_vector(
+    e: Ellipsoid,
+    o: Orientation,
+    x: Value,
+    y: Value,
+    z: Value,
+) -> Result<LocalVector, Unapplied>
+    ensures { RowGives Vector e (vector_word o) (x ∷ y ∷ z ∷ []) result }
 {
-    match lengths_of(x, y, z) {
-        Lengths::Are(lx, ly, lz) => gives_vector(LocalVector::new(o, lx, ly, lz)),
-        Lengths::Not => Applied::NoRow,
-    }
+    let x = Length::try_from(x)?;
+    let y = Length::try_from(y)?;
+    let z = Length::try_from(z)?;
+    Ok(LocalVector::new(o, x, y, z))
 }
 
 // aenu, aned, abody, awan
@@ -77,150 +85,108 @@ pub fn apply_aer(
     azimuth: Value,
     elevation: Value,
     range: Value,
-) -> Applied
-    ensures { result ≡ applied e (find table (aer_word o) (azimuth ∷ elevation ∷ range ∷ [])) }
+) -> Result<LocalVector, Unapplied>
+    ensures { RowGives Vector e (aer_word o) (azimuth ∷ elevation ∷ range ∷ []) result }
 {
-    match aer_of(azimuth, elevation, range) {
-        Aer::Are(az, el, r) => gives_vector(LocalVector::from_aer(o, az, el, r)),
-        Aer::Not => Applied::NoRow,
+    let azimuth = Angle::try_from(azimuth)?;
+    let elevation = Angle::try_from(elevation)?;
+    let range = Length::try_from(range)?;
+    Ok(LocalVector::from_aer(o, azimuth, elevation, range))
+}
+
+pub fn apply_to(e: Ellipsoid, frame: Value, position: Value) -> Result<LocalVector, Unapplied>
+    ensures { RowGives Vector e (ascii "to") (frame ∷ position ∷ []) result }
+{
+    let f = LocalFrame::try_from(frame)?;
+    let g = GeocentricPosition::try_from(position)?;
+    Ok(f.local_vector_to(g))
+}
+
+pub fn apply_at(e: Ellipsoid, frame: Value, vector: Value) -> Result<GeocentricPosition, Unapplied>
+    ensures { RowGives Geocentric e (ascii "at") (frame ∷ vector ∷ []) result }
+{
+    let f = LocalFrame::try_from(frame)?;
+    let v = LocalVector::try_from(vector)?;
+    if f.orientation != v.orientation {
+        return Err(Unapplied::NoRow);
     }
+    Ok(f.destination_position(v))
 }
 
-pub fn apply_to(e: Ellipsoid, frame: Value, position: Value) -> Applied
-    ensures { result ≡ applied e (find table (ascii "to") (frame ∷ position ∷ [])) }
+pub fn apply_neg(e: Ellipsoid, vector: Value) -> Result<LocalVector, Unapplied>
+    ensures { RowGives Vector e (ascii "neg") (vector ∷ []) result }
 {
-    let Value::Frame(f) = frame else {
-        return Applied::NoRow;
-    };
-    let Value::Geocentric(g) = position else {
-        return Applied::NoRow;
-    };
-    gives_vector(f.local_vector_to(g))
-}
-
-pub fn apply_at(e: Ellipsoid, frame: Value, vector: Value) -> Applied
-    ensures { result ≡ applied e (find table (ascii "at") (frame ∷ vector ∷ [])) }
-{
-    let Value::Frame(f) = frame else {
-        return Applied::NoRow;
-    };
-    let Value::Vector(v) = vector else {
-        return Applied::NoRow;
-    };
-    let o = f.orientation;
-    let u = v.orientation;
-    if same_orientation(o, u) {
-        gives_geocentric(f.destination_position(v))
-    } else {
-        Applied::NoRow
-    }
-}
-
-pub fn apply_neg(e: Ellipsoid, vector: Value) -> Applied
-    ensures { result ≡ applied e (find table (ascii "neg") (vector ∷ [])) }
-{
-    let Value::Vector(v) = vector else {
-        return Applied::NoRow;
-    };
-    gives_vector(-v)
+    let v = LocalVector::try_from(vector)?;
+    Ok(-v)
 }
 
 // add where `minus` is false, sub where it is true.
-pub fn apply_sum(e: Ellipsoid, minus: bool, v: Value, w: Value) -> Applied
-    ensures { result ≡ applied e (find table (sum_word minus) (v ∷ w ∷ [])) }
+pub fn apply_sum(e: Ellipsoid, minus: bool, v: Value, w: Value) -> Result<LocalVector, Unapplied>
+    ensures { RowGives Vector e (sum_word minus) (v ∷ w ∷ []) result }
 {
-    let Value::Vector(a) = v else {
-        return Applied::NoRow;
-    };
-    let Value::Vector(b) = w else {
-        return Applied::NoRow;
-    };
-    let o = a.orientation;
-    let u = b.orientation;
-    if same_orientation(o, u) {
-        if minus {
-            gives_vector(a - b)
-        } else {
-            gives_vector(a + b)
-        }
-    } else {
-        Applied::NoRow
+    let a = LocalVector::try_from(v)?;
+    let b = LocalVector::try_from(w)?;
+    if a.orientation != b.orientation {
+        return Err(Unapplied::NoRow);
+    }
+    Ok(if minus { a - b } else { a + b })
+}
+
+pub fn apply_scale(e: Ellipsoid, vector: Value, factor: Value) -> Result<LocalVector, Unapplied>
+    ensures { RowGives Vector e (ascii "scale") (vector ∷ factor ∷ []) result }
+{
+    let v = LocalVector::try_from(vector)?;
+    let k = f64::try_from(factor)?;
+    Ok(v * k)
+}
+
+pub fn apply_swap(e: Ellipsoid, vector: Value) -> Result<LocalVector, Unapplied>
+    ensures { RowGives Vector e (ascii "swap") (vector ∷ []) result }
+{
+    let v = LocalVector::try_from(vector)?;
+    match v.orientation {
+        Orientation::Enu | Orientation::Ned => Ok(v.swap()),
+        Orientation::Body | Orientation::Wan => Err(Unapplied::NoRow),
     }
 }
 
-pub fn apply_scale(e: Ellipsoid, vector: Value, factor: Value) -> Applied
-    ensures { result ≡ applied e (find table (ascii "scale") (vector ∷ factor ∷ [])) }
+pub fn apply_bearing(e: Ellipsoid, vector: Value) -> Result<Angle, Unapplied>
+    ensures { RowGives Radians e (ascii "bearing") (vector ∷ []) result }
 {
-    let Value::Vector(v) = vector else {
-        return Applied::NoRow;
-    };
-    let Value::Number(k) = factor else {
-        return Applied::NoRow;
-    };
-    gives_vector(v * k)
+    let v = LocalVector::try_from(vector)?;
+    Ok(v.bearing())
 }
 
-pub fn apply_swap(e: Ellipsoid, vector: Value) -> Applied
-    ensures { result ≡ applied e (find table (ascii "swap") (vector ∷ [])) }
+pub fn apply_elev(e: Ellipsoid, vector: Value) -> Result<Angle, Unapplied>
+    ensures { RowGives Radians e (ascii "elev") (vector ∷ []) result }
 {
-    let Value::Vector(v) = vector else {
-        return Applied::NoRow;
-    };
-    let o = v.orientation;
-    if enu_or_ned(o) {
-        gives_vector(v.swap())
-    } else {
-        Applied::NoRow
-    }
+    let v = LocalVector::try_from(vector)?;
+    Ok(v.elevation())
 }
 
-pub fn apply_bearing(e: Ellipsoid, vector: Value) -> Applied
-    ensures { result ≡ applied e (find table (ascii "bearing") (vector ∷ [])) }
+pub fn apply_range(e: Ellipsoid, vector: Value) -> Result<Length, Unapplied>
+    ensures { RowGives Metres e (ascii "range") (vector ∷ []) result }
 {
-    let Value::Vector(v) = vector else {
-        return Applied::NoRow;
-    };
-    gives_angle(v.bearing())
+    let v = LocalVector::try_from(vector)?;
+    Ok(v.slant_range())
 }
 
-pub fn apply_elev(e: Ellipsoid, vector: Value) -> Applied
-    ensures { result ≡ applied e (find table (ascii "elev") (vector ∷ [])) }
+pub fn apply_origin(e: Ellipsoid, frame: Value) -> Result<GeocentricPosition, Unapplied>
+    ensures { RowGives Geocentric e (ascii "origin") (frame ∷ []) result }
 {
-    let Value::Vector(v) = vector else {
-        return Applied::NoRow;
-    };
-    gives_angle(v.elevation())
-}
-
-pub fn apply_range(e: Ellipsoid, vector: Value) -> Applied
-    ensures { result ≡ applied e (find table (ascii "range") (vector ∷ [])) }
-{
-    let Value::Vector(v) = vector else {
-        return Applied::NoRow;
-    };
-    gives_length(v.slant_range())
-}
-
-pub fn apply_origin(e: Ellipsoid, frame: Value) -> Applied
-    ensures { result ≡ applied e (find table (ascii "origin") (frame ∷ [])) }
-{
-    let Value::Frame(f) = frame else {
-        return Applied::NoRow;
-    };
-    gives_geocentric(f.origin())
+    let f = LocalFrame::try_from(frame)?;
+    Ok(f.origin())
 }
 
 // rz, ry, rx
-pub fn apply_angle(e: Ellipsoid, axis: Axis, frame: Value) -> Applied
-    ensures { result ≡ applied e (find table (axis_word axis) (frame ∷ [])) }
+pub fn apply_angle(e: Ellipsoid, axis: Axis, frame: Value) -> Result<Angle, Unapplied>
+    ensures { RowGives Radians e (axis_word axis) (frame ∷ []) result }
 {
-    let Value::Frame(f) = frame else {
-        return Applied::NoRow;
-    };
+    let f = LocalFrame::try_from(frame)?;
     let angles = r2zyx(f.dir_rm);
-    match axis {
-        Axis::Z => gives_angle(angles.z),
-        Axis::Y => gives_angle(angles.y),
-        Axis::X => gives_angle(angles.x),
-    }
+    Ok(match axis {
+        Axis::Z => angles.z,
+        Axis::Y => angles.y,
+        Axis::X => angles.x,
+    })
 }

@@ -1,6 +1,7 @@
 // The run of a sheet over sixteen readings: refusals 1 to 6 over the whole sheet before line 2 runs, then its lines.
 pub(crate) mod apart;
 pub(crate) mod apply;
+pub(crate) mod bracket;
 pub(crate) mod eval;
 pub(crate) mod fields;
 pub(crate) mod floats;

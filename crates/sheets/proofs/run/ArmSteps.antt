@@ -1,19 +1,19 @@
 -- A number that one of several arms takes: a word's code or a key, and what it stands for. Assumes nothing.
+use Rattle.std.specs.Prelude.{Result}
 use Prim.Native.Nat.{ℕ, zero, suc, ◌+◌, ◌-◌, ◌<◌, ◌≤◌}
 use native.Mathlib.Omega.{arith}
 use mathlib.Core.Path.{◌≡◌, refl, sym, ap, subst, ◌∙◌}
-use mathlib.Core.Bool.{Bool, true, false, ◌&&◌}
+use mathlib.Core.Bool.{Bool, true, false}
 use mathlib.Core.Logic.{inl, inr, ⊎_elim}
 use mathlib.Core.List.{List, [], ◌∷◌, ◌++◌, map}
 use lib.Dec.{T, eqb, ltb}
 use lib.Ieee.{Float}
-use mir.Facts.{and_yes}
 use mir.Val.{has_key}
 use types.Run.{OneOf, hit}
 use borrow.Author.Tests.{eqb-true, ltb-true, ltb-false}
 use Rattle.frames.specs.declared.Ellipsoid.{Ellipsoid}
 use Rattle.sheets.specs.declared.Value.{Value}
-use Rattle.sheets.specs.declared.Applied.{Applied}
+use Rattle.sheets.specs.declared.Unapplied.{Unapplied}
 use Rattle.sheets.specs.declared.Evaluated.{Evaluated}
 use Rattle.sheets.specs.Text.{Word}
 use Rattle.sheets.specs.Kinds.{Kind, geocentric, geodetic}
@@ -21,13 +21,13 @@ use Rattle.sheets.specs.Table.{when, table}
 use Rattle.sheets.specs.Lookup.{find}
 use Rattle.sheets.specs.Claim.{All}
 use Rattle.sheets.specs.code.reader.Codes.{code_of}
-use Rattle.sheets.specs.code.rows.Applied.{applied}
+use Rattle.sheets.specs.code.rows.Applied.{applied, giving, RowGives}
 use Rattle.sheets.specs.code.rows.KindCodes.{kind_at, Missed}
 use Rattle.sheets.specs.code.run.Floats.{values_at}
 use Rattle.sheets.specs.code.run.Evaluating.{LaidAs, RowLaid}
 use Rattle.sheets.proofs.rows.KindRowLaws.{MissedEach}
 use Rattle.sheets.proofs.rows.WordLaws.{spelt}
-use Rattle.sheets.proofs.run.LaidSteps.{all_give, row_laid}
+use Rattle.sheets.proofs.run.LaidSteps.{row_laid}
 
 -- ---- a number that is one of several
 
@@ -42,15 +42,14 @@ at_one num P (u ∷ v ∷ us) r (inr o) k = at_one num P (v ∷ us) r.1 o k
 pub named : {A : Type 0} (num : A → ℕ) (back : ℕ → A) (us : List A) → All (λ u. back (num u) ≡ u) us → {x : ℕ} {a : A} → OneOf (map num us) x → a ≡ back x → x ≡ num a
 named num back us r o h = at_one num (λ u. back (num u) ≡ u) us r o (λ u p e. e ∙ ap num (sym (h ∙ ap back e ∙ p)))
 
--- the row for one of several words, whose values are of one letter: for the a that the word's code is found to stand for
-abbrev Stands : {A : Type 0} → (A → Word) → (ℕ → A) → ℕ → A → Type 0
-Stands word back n u = (back (code_of (word u)) ≡ u) × T (spelt (word u) && all_give n (word u) table)
+-- the row for one of several words: for the a that the word's code is found to stand for
+abbrev Stands : {A : Type 0} → (A → Word) → (ℕ → A) → A → Type 0
+Stands word back u = (back (code_of (word u)) ≡ u) × T (spelt (word u))
 
-pub row_by : {A : Type 0} (word : A → Word) (back : ℕ → A) (n : ℕ) (us : List A) → All (Stands word back n) us → {e : Ellipsoid} {code : ℕ} {ks : List Kind} {f : List Float} {at end : ℕ} {vs : List Value} → vs ≡ values_at ks f at
-    → (a : A) → a ≡ back code → {r : Applied} → r ≡ applied e (find table (word a) vs) → {q : Evaluated} {f' : List Float} → LaidAs n r f at end q f' → OneOf (map (λ u. code_of (word u)) us) code → RowLaid e code ks f at end q f'
-row_by word back n us t {e} {code} {ks} {f} {at} {end} {vs} hv a ha {r} hr {q} {f'} laid o = at_one (λ u. code_of (word u)) (Stands word back n) us t o (λ u p c.
-    let b = and_yes (spelt (word u)) (all_give n (word u) table) p.1 in
-    row_laid (word u) b.0 n b.1 e code ks f at end vs hv r (hr ∙ ap (λ w. applied e (find table (word w) vs)) (ha ∙ ap back c ∙ p.0)) q f' laid c)
+pub row_by : {A : Type 0} (word : A → Word) (back : ℕ → A) (us : List A) → All (Stands word back) us → {X : Type 0} (value : X → Value) {e : Ellipsoid} {code : ℕ} {ks : List Kind} {f : List Float} {at end : ℕ} {vs : List Value} → vs ≡ values_at ks f at
+    → (a : A) → a ≡ back code → (r : Result X Unapplied) → RowGives value e (word a) vs r → {q : Evaluated} {f' : List Float} → LaidAs (giving value r) f at end q f' → OneOf (map (λ u. code_of (word u)) us) code → RowLaid e code ks f at end q f'
+row_by word back us t value {e} {code} {ks} {f} {at} {end} {vs} hv a ha r hr {q} {f'} laid o = at_one (λ u. code_of (word u)) (Stands word back) us t o (λ u p c.
+    row_laid (word u) p.1 value e code ks f at end vs hv r (hr ∙ ap (λ w. applied e (find table (word w) vs)) (ha ∙ ap back c ∙ p.0)) q f' laid c)
 
 -- n numbers from k on
 abbrev pub from : ℕ → ℕ → List ℕ

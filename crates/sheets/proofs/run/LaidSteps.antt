@@ -1,48 +1,39 @@
 -- A row's answer, laid as floats, is what the machine's step comes to: with the test of refusal 7, for the row's word, and where no row fits. Assumes nothing.
+use Rattle.std.specs.Prelude.{Result, Ok, Err}
 use Prim.Native.Nat.{ℕ, ◌+◌, ◌≤◌}
 use native.Mathlib.Omega.{arith}
 use mathlib.Core.Path.{◌≡◌, refl, sym, ap, subst, ◌∙◌}
-use mathlib.Core.Logic.{inl, inr}
 use mathlib.Core.Bool.{Bool, true, false, ◌&&◌, ◌||◌, not}
 use mathlib.Core.List.{List, [], ◌∷◌, map}
 use mathlib.Core.Option.{Option, none, some}
-use lib.Dec.{T, eqb, eqb→eq}
-use lib.ListN.{length, set}
+use lib.Dec.{T, eqb}
+use lib.ListN.{set}
 use lib.Ieee.{Float}
 use mir.Facts.{and_yes}
 use mir.Val.{has_key}
-use types.Run.{OneOf}
-use denote.Enum.Declared.{tag_of}
 use Rattle.frames.specs.declared.Ellipsoid.{Ellipsoid}
 use Rattle.frames.specs.declared.LocalFrame.{LocalFrame}
 use Rattle.frames.specs.declared.GeodeticPosition.{GeodeticPosition}
-use Rattle.frames.specs.declared.Orientation.{Orientation}
-use Rattle.frames.specs.declared.Orientation.TheVariants.{Enu, Ned, Body, Wan}
 use Rattle.sheets.specs.declared.Value.{Value}
 use Rattle.sheets.specs.declared.Value.TheVariants.{Geodetic}
-use Rattle.sheets.specs.declared.Applied.{Applied}
-use Rattle.sheets.specs.declared.Applied.TheVariants.{Value as value, NoRow, Centre}
+use Rattle.sheets.specs.declared.Unapplied.{Unapplied}
+use Rattle.sheets.specs.declared.Unapplied.TheVariants.{NoRow, Centre}
 use Rattle.sheets.specs.declared.Evaluated.{Evaluated}
 use Rattle.sheets.specs.Text.{Word}
 use Rattle.sheets.specs.Kinds.{Kind, kind_of, kind_code, letter_of, same_kinds}
 use Rattle.sheets.specs.Limits.{in_limit}
-use Rattle.sheets.specs.Letters.{orientations}
-use Rattle.sheets.specs.Table.{Row, on, when, table}
+use Rattle.sheets.specs.Table.{on, when, table}
 use Rattle.sheets.specs.Lookup.{same_word, Hit, find, KindRow, kind_rows, search, find_kind}
 use Rattle.sheets.specs.Refusals.{Stop, centre, stop, refusal_number}
 use Rattle.sheets.specs.Machine.{stops, sticks, test, made, result, provided, apply_row}
-use Rattle.sheets.specs.Claim.{All}
 use Rattle.sheets.specs.code.reader.Codes.{code_of}
-use Rattle.sheets.specs.code.rows.Applied.{unless_near, applied}
+use Rattle.sheets.specs.code.rows.Applied.{unless_near, applied, giving, RowGives}
 use Rattle.sheets.specs.code.rows.KindCodes.{Missed}
-use Rattle.sheets.specs.code.run.Floats.{value_at, values_at, Lies, lay, KeptBelow}
-use Rattle.sheets.specs.code.run.Evaluating.{evaluated, LiesOf, Answers, tested_at, out_of, LaidAs, RowLaid}
-use Rattle.sheets.proofs.ByCases.{by_cases}
-use Rattle.sheets.specs.contracts.Value as value_type
+use Rattle.sheets.specs.code.run.Floats.{value_at, values_at, Lies, lay, KeptBelow, IsLaid}
+use Rattle.sheets.specs.code.run.Evaluating.{evaluated, LiesOf, Answers, tested_at, out_of, unapplied, LaidAs, RowLaid}
 use Rattle.sheets.proofs.reader.CodeLaws.{code_same}
 use Rattle.sheets.proofs.check.KindExact.{same_word_lem, same-kinds}
-use Rattle.sheets.proofs.rows.FindKind.{lead, given, mapped, find-kind}
-use Rattle.sheets.proofs.rows.Kept.{Kept, OfHit, of-find, kept-find}
+use Rattle.sheets.proofs.rows.FindKind.{given, mapped, find-kind}
 use Rattle.sheets.proofs.rows.KindRowLaws.{kind-at}
 use Rattle.sheets.proofs.rows.WordLaws.{spelt, spelt_is, missed-none}
 use Rattle.sheets.proofs.run.FloatLaws.{kinds-of-at, kept_refl, kept_trans, kept_set, kept-lay, lies-geodetic}
@@ -69,46 +60,26 @@ module _ (at n : ℕ) (f : List Float) (fs : List LocalFrame) where
 
 -- ---- a row's answer
 
-tag-letter : (v : Value) → tag_of value_type.the_type v ≡ letter_of (kind_of v)
-tag-letter = by_cases (λ v. tag_of value_type.the_type v ≡ letter_of (kind_of v)) (λ x. refl) (λ x. refl) (λ x. refl) (λ x. refl) (λ x. refl) (λ x. refl) (λ x. refl)
+-- a geodetic position, whose height is stored behind the rest
+pub geodetic-laid : (f : List Float) (at : ℕ) (p : GeodeticPosition) → at + 21 ≤ 2940 → IsLaid (Geodetic p) f at 4 (set (lay f at (p.hp.0.x ∷ p.hp.0.y ∷ p.hp.0.z ∷ [])) (at + 3) p.height.0)
+geodetic-laid f at p room = record {
+  code = refl;
+  lies = λ lf. lies-geodetic f lf at room p;
+  kept = kept_trans f _ _ at (at + 3) (kept-lay f at (p.hp.0.x ∷ p.hp.0.y ∷ p.hp.0.z ∷ [])) (kept_set _ (at + 3) p.height.0) (omega arith);
+}
 
--- the last letter
-pub last_letter : (n : ℕ) → 1 ≤ n → Missed (5 ∷ 4 ∷ 3 ∷ 2 ∷ 1 ∷ []) n → OneOf (0 ∷ 1 ∷ 2 ∷ 3 ∷ 4 ∷ 5 ∷ []) n → ⊥
-last_letter n l m (inl e) = omega arith
-last_letter n l m (inr (inl e)) = m.0.0.0.0.1 e
-last_letter n l m (inr (inr (inl e))) = m.0.0.0.1 e
-last_letter n l m (inr (inr (inr (inl e)))) = m.0.0.1 e
-last_letter n l m (inr (inr (inr (inr (inl e))))) = m.0.1 e
-last_letter n l m (inr (inr (inr (inr (inr e))))) = m.1 e
+module _ (f : List Float) (at n : ℕ) where
+  -- a value that was laid, as its kind's code is tested
+  pub laid-value : (v : Value) (k : ℕ) (f' : List Float) → IsLaid v f at k f' → (q : Evaluated) → q ≡ tested_at k f' at n → LaidAs (Ok v) f at n q f'
+  laid-value v k f' l q h = record { is = λ lf. answers-tested at n f f' (made v) v (l.lies lf) l.kept k l.code q h }
 
-module _ (letter : ℕ) (f : List Float) (at n : ℕ) where
-  -- a value whose floats are stored, of the kind with code k
-  pub value-laid : (v w : Value) → v ≡ w → (g f' : List Float) → f' ≡ g → (length f ≡ 2940 → Lies g at w) → KeptBelow f at g → (k : ℕ) → k ≡ kind_code (kind_of w) → (q : Evaluated) → q ≡ tested_at k f' at n → LaidAs letter (value v) f at n q f'
-  value-laid v w e g f' s lies kept k c q h = rw (e, s) (record { is = λ lf hv. answers-tested at n f g (made w) w (lies lf) kept k c q (h ∙ ap (λ x. tested_at k x at n) s) })
-
-  -- a geodetic position, whose height is stored behind the rest
-  pub geodetic-laid : at + 21 ≤ 2940 → (v : Value) (p : GeodeticPosition) → v ≡ Geodetic p → (g : List Float) → g ≡ lay f at (p.hp.0.x ∷ p.hp.0.y ∷ p.hp.0.z ∷ []) → (q : Evaluated) → q ≡ tested_at 4 (set g (at + 3) p.height.0) at n
-      → LaidAs letter (value v) f at n q (set g (at + 3) p.height.0)
-  geodetic-laid room v p e g s q h =
-      value-laid v (Geodetic p) e _ _ (ap (λ x. set x (at + 3) p.height.0) s) (λ lf. lies-geodetic f lf at room p)
-      (kept_trans f _ _ at (at + 3) (kept-lay f at (p.hp.0.x ∷ p.hp.0.y ∷ p.hp.0.z ∷ [])) (kept_set _ (at + 3) p.height.0) (omega arith)) 4 refl q h
-
-  -- a value of another letter
-  pub other-laid : (v : Value) (ks : List ℕ) → OneOf ks (tag_of value_type.the_type v) → (OneOf ks letter → ⊥) → LaidAs letter (value v) f at n Evaluated.Sticks f
-  other-laid v ks o m = record { is = λ lf hv. absurd (m (subst (OneOf ks) (tag-letter v ∙ hv v refl) o)) }
-
-  pub laid-value : (r : Applied) (v : Value) → r ≡ value v → (q : Evaluated) (f' : List Float) → LaidAs letter (value v) f at n q f' → LaidAs letter r f at n q f'
-  laid-value r v e q f' l = subst (λ x. LaidAs letter x f at n q f') (sym e) l
-
-  pub laid_none : (r : Applied) → r ≡ NoRow → LaidAs letter r f at n Evaluated.Sticks f
-  laid_none r e = rw e (record { is = λ lf hv. answers-none at n f [] })
-
-  pub laid-centre : (r : Applied) → r ≡ Centre → LaidAs letter r f at n (Evaluated.Stops 8) f
-  laid-centre r e = rw e (record { is = λ lf hv. answers-stops at n f [] centre })
+  pub laid-unapplied : (u : Unapplied) (q : Evaluated) → q ≡ unapplied u → LaidAs (Err u) f at n q f
+  laid-unapplied NoRow q e = rw e (record { is = λ lf. answers-none at n f [] })
+  laid-unapplied Centre q e = rw e (record { is = λ lf. answers-stops at n f [] centre })
 
 -- ---- the machine's step
 
-by-test : (b : Bool) (x : Value) → provided b (λ u. result x) ≡ out_of (unless_near b (value x))
+by-test : (b : Bool) (x : Value) → provided b (λ u. result x) ≡ out_of (unless_near b x)
 by-test true x = refl
 by-test false x = refl
 
@@ -116,71 +87,16 @@ pub apply-row : (e : Ellipsoid) (o : Option Hit) → apply_row e o ≡ out_of (a
 apply-row e none = refl
 apply-row e (some h) = by-test (on h.row.takes (h.row.centred e) h.args) (on h.row.takes (h.row.apply e) h.args)
 
--- ---- the letter of a row's value
-
-abbrev gives_of : ℕ → Row → Orientation → Bool
-gives_of n r o = eqb (letter_of (r.gives o)) n
-
--- a row for the word v gives this letter in each orientation
-abbrev give_of : ℕ → Word → Row → Bool
-give_of n v r = not (same_word v r.word) || (gives_of n r Enu && (gives_of n r Ned && (gives_of n r Body && gives_of n r Wan)))
-
-abbrev pub all_give : ℕ → Word → List Row → Bool
-all_give n v [] = true
-all_give n v (r ∷ rs) = give_of n v r && all_give n v rs
-
-all_give_lem : (n : ℕ) (v : Word) (rs : List Row) → T (all_give n v rs) → All (λ r. T (give_of n v r)) rs
-all_give_lem n v [] t = tt
-all_give_lem n v (r ∷ rs) t =
-    let h = and_yes (give_of n v r) (all_give n v rs) t in
-    (h.0, all_give_lem n v rs h.1)
-
--- the row gives this letter
-abbrev Gives : ℕ → Row → Type 0
-Gives n r = (o : Orientation) → letter_of (r.gives o) ≡ n
-
-gives-each : (n : ℕ) (v : Word) (r : Row) → T (give_of n v r) → T (same_word v r.word) → Gives n r
-gives-each n v r t w o = go (same_word v r.word) w t
-  where
-    each : T (gives_of n r Enu && (gives_of n r Ned && (gives_of n r Body && gives_of n r Wan))) → (o : Orientation) → T (gives_of n r o)
-    each h Enu = (and_yes (gives_of n r Enu) _ h).0
-    each h Ned = (and_yes (gives_of n r Ned) _ (and_yes (gives_of n r Enu) _ h).1).0
-    each h Body = (and_yes (gives_of n r Body) _ (and_yes (gives_of n r Ned) _ (and_yes (gives_of n r Enu) _ h).1).1).0
-    each h Wan = (and_yes (gives_of n r Body) _ (and_yes (gives_of n r Ned) _ (and_yes (gives_of n r Enu) _ h).1).1).1
-
-    go : (b : Bool) → T b → T (not b || (gives_of n r Enu && (gives_of n r Ned && (gives_of n r Body && gives_of n r Wan)))) → letter_of (r.gives o) ≡ n
-    go true u h = eqb→eq (letter_of (r.gives o)) n (each h o)
-    go false u h = absurd u
-
--- the answer's value, where there is one, has this letter
-abbrev OfLetter : ℕ → Applied → Type 0
-OfLetter n (value x) = letter_of (kind_of x) ≡ n
-OfLetter n NoRow = Unit {0}
-OfLetter n Centre = Unit {0}
-
-of-letter : (n : ℕ) (e : Ellipsoid) (o : Option Hit) → OfHit Kept o → OfHit (Gives n) o → OfLetter n (applied e o)
-of-letter n e none k g = tt
-of-letter n e (some h) k g = go (on h.row.takes (h.row.centred e) h.args)
-  where
-    go : (b : Bool) → OfLetter n (unless_near b (value (on h.row.takes (h.row.apply e) h.args)))
-    go true = ap letter_of (k e h.args) ∙ g (lead (orientations h.row.takes h.args))
-    go false = tt
-
-pub gives : (n : ℕ) (v : Word) → T (all_give n v table) → (e : Ellipsoid) (vs : List Value) (r : Applied) → r ≡ applied e (find table v vs) → (x : Value) → r ≡ value x → letter_of (kind_of x) ≡ n
-gives n v t e vs r h x p =
-    subst (OfLetter n) (sym h ∙ p)
-    (of-letter n e (find table v vs) (kept-find v vs) (of-find (Gives n) (λ r. T (give_of n v r)) v (gives-each n v) table (all_give_lem n v table t) vs))
-
 -- ---- a row
 
 -- the row for the word v
-pub row_laid : (v : Word) → T (spelt v) → (n : ℕ) → T (all_give n v table) → (e : Ellipsoid) (code : ℕ) (ks : List Kind) (f : List Float) (at end : ℕ) (vs : List Value) → vs ≡ values_at ks f at
-    → (r : Applied) → r ≡ applied e (find table v vs) → (q : Evaluated) (f' : List Float) → LaidAs n r f at end q f' → code ≡ code_of v → RowLaid e code ks f at end q f'
-row_laid v hv n t e code ks f at end vs us r h q f' laid c = record {
-  is = λ lf w hw d. subst (λ o. Answers o end at f q f') (step w (code_same v w (spelt_is v hv) hw (sym c ∙ d))) (laid.is lf (gives n v t e vs r h));
+pub row_laid : (v : Word) → T (spelt v) → {X : Type 0} (value : X → Value) (e : Ellipsoid) (code : ℕ) (ks : List Kind) (f : List Float) (at end : ℕ) (vs : List Value) → vs ≡ values_at ks f at
+    → (r : Result X Unapplied) → RowGives value e v vs r → (q : Evaluated) (f' : List Float) → LaidAs (giving value r) f at end q f' → code ≡ code_of v → RowLaid e code ks f at end q f'
+row_laid v hv value e code ks f at end vs us r h q f' laid c = record {
+  is = λ lf w hw d. subst (λ o. Answers o end at f q f') (step w (code_same v w (spelt_is v hv) hw (sym c ∙ d))) (laid.is lf);
 }
   where
-    step : (w : Word) → v ≡ w → out_of r ≡ apply_row e (find table w (values_at ks f at))
+    step : (w : Word) → v ≡ w → out_of (giving value r) ≡ apply_row e (find table w (values_at ks f at))
     step w p = ap out_of h ∙ sym (apply-row e (find table v vs)) ∙ ap (λ x. apply_row e (find table x vs)) p ∙ ap (λ us. apply_row e (find table w us)) us
 
 -- ---- where no row fits

@@ -1,29 +1,14 @@
-// What an operator answers, and views of its arguments.
-ghost use Rattle.std.specs.Prelude.{◌≡◌, ◌≤◌, [], ◌∷◌};
-ghost use Rattle.sheets.specs.Kinds.{place, same_orientation};
-ghost use Rattle.sheets.specs.Letters.{hold, 𝐚, 𝐥};
-ghost use Rattle.sheets.specs.Table.{not_body, enu_or_ned};
-ghost use Rattle.sheets.specs.code.rows.Applied.{lengths, aer};
-ghost use Rattle.sheets.specs.declared.Value.{Value};
-ghost use Rattle.sheets.specs.declared.Applied.{Applied};
+// Views of an operator's arguments: what a value holds, where it is of the letter that the operator takes.
+#![tactic(auto, unfolding(crate::specs::Letters::held))]
 
-use crate::{Applied, Value};
+ghost use Rattle.std.specs.Prelude.{◌≡◌, ◌≤◌};
+ghost use Rattle.sheets.specs.Kinds.{place};
+ghost use Rattle.sheets.specs.Letters.{𝐧, 𝐚, 𝐥, 𝐠, 𝐝, 𝐯, 𝐟};
+ghost use Rattle.sheets.specs.code.rows.Applied.{argument};
+
+use crate::{Unapplied, Value};
 use frames::{GeocentricPosition, GeodeticPosition, LocalFrame, LocalVector, Orientation};
 use numbers::{Angle, Length};
-
-// Three lengths, where the arguments are three lengths.
-#[derive(Clone, Copy)]
-pub enum Lengths {
-    Are(Length, Length, Length),
-    Not,
-}
-
-// Two angles and a length, where the arguments are these.
-#[derive(Clone, Copy)]
-pub enum Aer {
-    Are(Angle, Angle, Length),
-    Not,
-}
 
 // The axis that an angle of a frame is about.
 #[derive(Clone, Copy)]
@@ -31,43 +16,6 @@ pub enum Axis {
     Z,
     Y,
     X,
-}
-
-// An answer of each kind but n, which no operator gives.
-pub fn gives_angle(x: Angle) -> Applied
-    ensures { result ≡ Applied.Value (Value.Radians x) }
-{
-    Applied::Value(Value::Radians(x))
-}
-
-pub fn gives_length(x: Length) -> Applied
-    ensures { result ≡ Applied.Value (Value.Metres x) }
-{
-    Applied::Value(Value::Metres(x))
-}
-
-pub fn gives_geocentric(x: GeocentricPosition) -> Applied
-    ensures { result ≡ Applied.Value (Value.Geocentric x) }
-{
-    Applied::Value(Value::Geocentric(x))
-}
-
-pub fn gives_geodetic(x: GeodeticPosition) -> Applied
-    ensures { result ≡ Applied.Value (Value.Geodetic x) }
-{
-    Applied::Value(Value::Geodetic(x))
-}
-
-pub fn gives_vector(x: LocalVector) -> Applied
-    ensures { result ≡ Applied.Value (Value.Vector x) }
-{
-    Applied::Value(Value::Vector(x))
-}
-
-pub fn gives_frame(x: LocalFrame) -> Applied
-    ensures { result ≡ Applied.Value (Value.Frame x) }
-{
-    Applied::Value(Value::Frame(x))
 }
 
 // An orientation's place in the order of document 01.
@@ -82,64 +30,93 @@ pub fn place_of(o: Orientation) -> u8
     }
 }
 
-pub fn same_orientation(o: Orientation, p: Orientation) -> bool
-    ensures { result ≡ same_orientation o p }
-{
-    let i = place_of(o);
-    let j = place_of(p);
-    i == j
-}
+impl TryFrom<Value> for f64 {
+    type Error = Unapplied;
 
-pub fn not_body(o: Orientation) -> bool
-    ensures { result ≡ not_body o }
-{
-    match o {
-        Orientation::Enu => true,
-        Orientation::Ned => true,
-        Orientation::Body => false,
-        Orientation::Wan => true,
+    ghost try_from_gives = { λ v r. r ≡ argument 𝐧 v };
+
+    fn try_from(v: Value) -> Result<f64, Unapplied> {
+        match v {
+            Value::Number(x) => Ok(x),
+            _ => Err(Unapplied::NoRow),
+        }
     }
 }
 
-pub fn enu_or_ned(o: Orientation) -> bool
-    ensures { result ≡ enu_or_ned o }
-{
-    match o {
-        Orientation::Enu => true,
-        Orientation::Ned => true,
-        Orientation::Body => false,
-        Orientation::Wan => false,
+impl TryFrom<Value> for Angle {
+    type Error = Unapplied;
+
+    ghost try_from_gives = { λ v r. r ≡ argument 𝐚 v };
+
+    fn try_from(v: Value) -> Result<Angle, Unapplied> {
+        match v {
+            Value::Radians(x) => Ok(x),
+            _ => Err(Unapplied::NoRow),
+        }
     }
 }
 
-// Three lengths.
-pub fn lengths_of(p: Value, q: Value, j: Value) -> Lengths
-    ensures { hold (𝐥 ∷ 𝐥 ∷ 𝐥 ∷ []) (p ∷ q ∷ j ∷ []) ≡ lengths result }
-{
-    let Value::Metres(x) = p else {
-        return Lengths::Not;
-    };
-    let Value::Metres(y) = q else {
-        return Lengths::Not;
-    };
-    let Value::Metres(z) = j else {
-        return Lengths::Not;
-    };
-    Lengths::Are(x, y, z)
+impl TryFrom<Value> for Length {
+    type Error = Unapplied;
+
+    ghost try_from_gives = { λ v r. r ≡ argument 𝐥 v };
+
+    fn try_from(v: Value) -> Result<Length, Unapplied> {
+        match v {
+            Value::Metres(x) => Ok(x),
+            _ => Err(Unapplied::NoRow),
+        }
+    }
 }
 
-// Two angles and a length.
-pub fn aer_of(p: Value, q: Value, j: Value) -> Aer
-    ensures { hold (𝐚 ∷ 𝐚 ∷ 𝐥 ∷ []) (p ∷ q ∷ j ∷ []) ≡ aer result }
-{
-    let Value::Radians(x) = p else {
-        return Aer::Not;
-    };
-    let Value::Radians(y) = q else {
-        return Aer::Not;
-    };
-    let Value::Metres(z) = j else {
-        return Aer::Not;
-    };
-    Aer::Are(x, y, z)
+impl TryFrom<Value> for GeocentricPosition {
+    type Error = Unapplied;
+
+    ghost try_from_gives = { λ v r. r ≡ argument 𝐠 v };
+
+    fn try_from(v: Value) -> Result<GeocentricPosition, Unapplied> {
+        match v {
+            Value::Geocentric(x) => Ok(x),
+            _ => Err(Unapplied::NoRow),
+        }
+    }
+}
+
+impl TryFrom<Value> for GeodeticPosition {
+    type Error = Unapplied;
+
+    ghost try_from_gives = { λ v r. r ≡ argument 𝐝 v };
+
+    fn try_from(v: Value) -> Result<GeodeticPosition, Unapplied> {
+        match v {
+            Value::Geodetic(x) => Ok(x),
+            _ => Err(Unapplied::NoRow),
+        }
+    }
+}
+
+impl TryFrom<Value> for LocalVector {
+    type Error = Unapplied;
+
+    ghost try_from_gives = { λ v r. r ≡ argument 𝐯 v };
+
+    fn try_from(v: Value) -> Result<LocalVector, Unapplied> {
+        match v {
+            Value::Vector(x) => Ok(x),
+            _ => Err(Unapplied::NoRow),
+        }
+    }
+}
+
+impl TryFrom<Value> for LocalFrame {
+    type Error = Unapplied;
+
+    ghost try_from_gives = { λ v r. r ≡ argument 𝐟 v };
+
+    fn try_from(v: Value) -> Result<LocalFrame, Unapplied> {
+        match v {
+            Value::Frame(x) => Ok(x),
+            _ => Err(Unapplied::NoRow),
+        }
+    }
 }

@@ -1,155 +1,124 @@
-// The rows that convert a position or make a frame, by functions of the frame crate: each at values of the row's kinds.
+// The rows that convert a position or make a frame, by functions of the frame crate: each takes values, and gives what a value of the row's kind holds.
 ghost use Rattle.std.specs.Prelude.{◌≡◌, [], ◌∷◌};
 ghost use Rattle.sheets.specs.Text.{ascii};
-ghost use Rattle.sheets.specs.Table.{table};
-ghost use Rattle.sheets.specs.Lookup.{find};
-ghost use Rattle.sheets.specs.code.rows.Applied.{applied, level_word};
+ghost use Rattle.sheets.specs.declared.Value.TheVariants.{Geocentric, Geodetic, Frame};
+ghost use Rattle.sheets.specs.code.rows.Applied.{RowGives, level_word};
 
-use crate::rows::args::{
-    gives_frame, gives_geocentric, gives_geodetic, not_body, same_orientation,
+use crate::rows::limits::far_enough;
+use crate::{Unapplied, Value};
+use frames::{
+    Ellipsoid, GeocentricPosition, GeodeticPosition, LocalFrame, LocalVector, Orientation,
 };
-use crate::rows::limits::is_far;
-use crate::{Applied, Value};
-use frames::{Ellipsoid, LocalFrame};
+use numbers::Angle;
 
-pub fn apply_togeo(e: Ellipsoid, position: Value) -> Applied
-    ensures { result ≡ applied e (find table (ascii "togeo") (position ∷ [])) }
+pub fn apply_togeo(e: Ellipsoid, position: Value) -> Result<GeocentricPosition, Unapplied>
+    ensures { RowGives Geocentric e (ascii "togeo") (position ∷ []) result }
 {
-    let Value::Geodetic(d) = position else {
-        return Applied::NoRow;
-    };
-    gives_geocentric(e.geodetic_to_geocentric_position(d))
+    let d = GeodeticPosition::try_from(position)?;
+    Ok(e.geodetic_to_geocentric_position(d))
 }
 
-pub fn apply_tolla(e: Ellipsoid, position: Value) -> Applied
-    ensures { result ≡ applied e (find table (ascii "tolla") (position ∷ [])) }
+pub fn apply_tolla(e: Ellipsoid, position: Value) -> Result<GeodeticPosition, Unapplied>
+    ensures { RowGives Geodetic e (ascii "tolla") (position ∷ []) result }
 {
-    let Value::Geocentric(g) = position else {
-        return Applied::NoRow;
-    };
-    if is_far(e, g) {
-        gives_geodetic(e.geocentric_to_geodetic_position(g))
-    } else {
-        Applied::Centre
-    }
+    let g = GeocentricPosition::try_from(position)?;
+    far_enough(e, g)?;
+    Ok(e.geocentric_to_geodetic_position(g))
 }
 
 // enu where `ned` is false, ned where it is true.
-pub fn apply_level(e: Ellipsoid, ned: bool, position: Value) -> Applied
-    ensures { result ≡ applied e (find table (level_word ned) (position ∷ [])) }
+pub fn apply_level(e: Ellipsoid, ned: bool, position: Value) -> Result<LocalFrame, Unapplied>
+    ensures { RowGives Frame e (level_word ned) (position ∷ []) result }
 {
     match position {
         Value::Geocentric(g) => {
-            if is_far(e, g) {
-                if ned {
-                    gives_frame(LocalFrame::ned(g, e))
-                } else {
-                    gives_frame(LocalFrame::enu(g, e))
-                }
+            far_enough(e, g)?;
+            if ned {
+                Ok(LocalFrame::ned(g, e))
             } else {
-                Applied::Centre
+                Ok(LocalFrame::enu(g, e))
             }
         }
         Value::Geodetic(d) => {
             if ned {
-                gives_frame(LocalFrame::ned(d, e))
+                Ok(LocalFrame::ned(d, e))
             } else {
-                gives_frame(LocalFrame::enu(d, e))
+                Ok(LocalFrame::enu(d, e))
             }
         }
-        _ => Applied::NoRow,
+        _ => Err(Unapplied::NoRow),
     }
 }
 
-pub fn apply_wan(e: Ellipsoid, azimuth: Value, position: Value) -> Applied
-    ensures { result ≡ applied e (find table (ascii "wan") (azimuth ∷ position ∷ [])) }
+pub fn apply_wan(e: Ellipsoid, azimuth: Value, position: Value) -> Result<LocalFrame, Unapplied>
+    ensures { RowGives Frame e (ascii "wan") (azimuth ∷ position ∷ []) result }
 {
-    let Value::Radians(az) = azimuth else {
-        return Applied::NoRow;
-    };
+    let az = Angle::try_from(azimuth)?;
     match position {
         Value::Geocentric(g) => {
-            if is_far(e, g) {
-                gives_frame(LocalFrame::wander_azimuth(az, g, e))
-            } else {
-                Applied::Centre
-            }
+            far_enough(e, g)?;
+            Ok(LocalFrame::wander_azimuth(az, g, e))
         }
-        Value::Geodetic(d) => gives_frame(LocalFrame::wander_azimuth(az, d, e)),
-        _ => Applied::NoRow,
+        Value::Geodetic(d) => Ok(LocalFrame::wander_azimuth(az, d, e)),
+        _ => Err(Unapplied::NoRow),
     }
 }
 
-pub fn apply_body(e: Ellipsoid, yaw: Value, pitch: Value, roll: Value, position: Value) -> Applied
-    ensures { result ≡ applied e (find table (ascii "body") (yaw ∷ pitch ∷ roll ∷ position ∷ [])) }
+pub fn apply_body(
+    e: Ellipsoid,
+    yaw: Value,
+    pitch: Value,
+    roll: Value,
+    position: Value,
+) -> Result<LocalFrame, Unapplied>
+    ensures { RowGives Frame e (ascii "body") (yaw ∷ pitch ∷ roll ∷ position ∷ []) result }
 {
-    let Value::Radians(y) = yaw else {
-        return Applied::NoRow;
-    };
-    let Value::Radians(p) = pitch else {
-        return Applied::NoRow;
-    };
-    let Value::Radians(r) = roll else {
-        return Applied::NoRow;
-    };
+    let y = Angle::try_from(yaw)?;
+    let p = Angle::try_from(pitch)?;
+    let r = Angle::try_from(roll)?;
     match position {
         Value::Geocentric(g) => {
-            if is_far(e, g) {
-                gives_frame(LocalFrame::body(y, p, r, g, e))
-            } else {
-                Applied::Centre
-            }
+            far_enough(e, g)?;
+            Ok(LocalFrame::body(y, p, r, g, e))
         }
-        Value::Geodetic(d) => gives_frame(LocalFrame::body(y, p, r, d, e)),
-        _ => Applied::NoRow,
+        Value::Geodetic(d) => Ok(LocalFrame::body(y, p, r, d, e)),
+        _ => Err(Unapplied::NoRow),
     }
 }
 
-pub fn apply_look(e: Ellipsoid, position: Value, target: Value, roll: Value) -> Applied
-    ensures { result ≡ applied e (find table (ascii "look") (position ∷ target ∷ roll ∷ [])) }
+pub fn apply_look(
+    e: Ellipsoid,
+    position: Value,
+    target: Value,
+    roll: Value,
+) -> Result<LocalFrame, Unapplied>
+    ensures { RowGives Frame e (ascii "look") (position ∷ target ∷ roll ∷ []) result }
 {
     match position {
         Value::Geocentric(g) => {
-            let Value::Geocentric(t) = target else {
-                return Applied::NoRow;
-            };
-            let Value::Radians(r) = roll else {
-                return Applied::NoRow;
-            };
-            if is_far(e, g) {
-                gives_frame(LocalFrame::looking_at(g, t, r, e))
-            } else {
-                Applied::Centre
-            }
+            let t = GeocentricPosition::try_from(target)?;
+            let r = Angle::try_from(roll)?;
+            far_enough(e, g)?;
+            Ok(LocalFrame::looking_at(g, t, r, e))
         }
         Value::Geodetic(d) => {
-            let Value::Geodetic(t) = target else {
-                return Applied::NoRow;
-            };
-            let Value::Radians(r) = roll else {
-                return Applied::NoRow;
-            };
-            gives_frame(LocalFrame::looking_at(d, t, r, e))
+            let t = GeodeticPosition::try_from(target)?;
+            let r = Angle::try_from(roll)?;
+            Ok(LocalFrame::looking_at(d, t, r, e))
         }
-        _ => Applied::NoRow,
+        _ => Err(Unapplied::NoRow),
     }
 }
 
-pub fn apply_turn(e: Ellipsoid, frame: Value, angle: Value) -> Applied
-    ensures { result ≡ applied e (find table (ascii "turn") (frame ∷ angle ∷ [])) }
+pub fn apply_turn(e: Ellipsoid, frame: Value, angle: Value) -> Result<LocalFrame, Unapplied>
+    ensures { RowGives Frame e (ascii "turn") (frame ∷ angle ∷ []) result }
 {
-    let Value::Frame(f) = frame else {
-        return Applied::NoRow;
-    };
-    let Value::Radians(a) = angle else {
-        return Applied::NoRow;
-    };
-    let o = f.orientation;
-    if not_body(o) {
-        gives_frame(f.rotate_around_z(a))
-    } else {
-        Applied::NoRow
+    let f = LocalFrame::try_from(frame)?;
+    let a = Angle::try_from(angle)?;
+    if f.orientation == Orientation::Body {
+        return Err(Unapplied::NoRow);
     }
+    Ok(f.rotate_around_z(a))
 }
 
 pub fn apply_move(
@@ -159,29 +128,16 @@ pub fn apply_move(
     yaw: Value,
     pitch: Value,
     roll: Value,
-) -> Applied
-    ensures { result ≡ applied e (find table (ascii "move") (frame ∷ vector ∷ yaw ∷ pitch ∷ roll ∷ [])) }
+) -> Result<LocalFrame, Unapplied>
+    ensures { RowGives Frame e (ascii "move") (frame ∷ vector ∷ yaw ∷ pitch ∷ roll ∷ []) result }
 {
-    let Value::Frame(f) = frame else {
-        return Applied::NoRow;
-    };
-    let Value::Vector(v) = vector else {
-        return Applied::NoRow;
-    };
-    let Value::Radians(y) = yaw else {
-        return Applied::NoRow;
-    };
-    let Value::Radians(p) = pitch else {
-        return Applied::NoRow;
-    };
-    let Value::Radians(r) = roll else {
-        return Applied::NoRow;
-    };
-    let o = f.orientation;
-    let u = v.orientation;
-    if same_orientation(o, u) {
-        gives_frame(f.transform(v, y, p, r))
-    } else {
-        Applied::NoRow
+    let f = LocalFrame::try_from(frame)?;
+    let v = LocalVector::try_from(vector)?;
+    let y = Angle::try_from(yaw)?;
+    let p = Angle::try_from(pitch)?;
+    let r = Angle::try_from(roll)?;
+    if f.orientation != v.orientation {
+        return Err(Unapplied::NoRow);
     }
+    Ok(f.transform(v, y, p, r))
 }

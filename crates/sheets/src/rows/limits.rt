@@ -3,8 +3,9 @@ ghost use Rattle.std.specs.Prelude.{◌≡◌};
 ghost use Rattle.std.specs.Float.Ieee as Ieee;
 ghost use Rattle.sheets.specs.Limits.{between, near, all_near, in_limit};
 ghost use Rattle.sheets.specs.Table.{far};
+ghost use Rattle.sheets.specs.code.rows.Applied.{far_enough};
 
-use crate::Value;
+use crate::{Unapplied, Value};
 use frames::positions::PositionVector;
 use frames::{Ellipsoid, GeocentricPosition};
 
@@ -47,4 +48,15 @@ pub fn is_far(e: Ellipsoid, g: GeocentricPosition) -> bool
 {
     let v = g.as_metres();
     e.p_of(v) + e.q_of(v) >= 0.25
+}
+
+// Refusal 8, where a position is too near to the centre to be converted, or to be a frame's origin.
+pub fn far_enough(e: Ellipsoid, g: GeocentricPosition) -> Result<(), Unapplied>
+    ensures { result ≡ far_enough e g }
+{
+    if is_far(e, g) {
+        Ok(())
+    } else {
+        Err(Unapplied::Centre)
+    }
 }

@@ -3,6 +3,7 @@ ghost use Rattle.std.specs.Prelude.{◌≡◌, ◌+◌, ◌≤◌};
 ghost use Rattle.sheets.specs.code.run.Evaluating.{ForKinds, ForKindsBeyond, plain_keys, orientation_at, orientation_by};
 
 use crate::Evaluated;
+use crate::run::bracket::Bracket;
 use crate::run::oriented_rows::{
     at_row, frame_row, move_row, scale_row, to_row, turn_row, vector_row, vectors_row,
 };
@@ -23,19 +24,20 @@ pub fn apply(
     requires { top + 105 ≤ 2940 }
     ensures { ForKinds e code key floats.old top end result floats.new }
 {
+    let b = Bracket { e, code, top, end };
     match key {
-        0x1 => number_row(e, code, floats, top, end),
-        0x333 => lengths_row(e, code, floats, top, end),
-        0x223 => aer_row(e, code, floats, top, end),
-        0x4 => position_row(e, code, 3, floats, top, end),
-        0x5 => position_row(e, code, 4, floats, top, end),
-        0x24 => wan_row(e, code, 3, floats, top, end),
-        0x25 => wan_row(e, code, 4, floats, top, end),
-        0x2224 => body_row(e, code, 3, floats, top, end),
-        0x2225 => body_row(e, code, 4, floats, top, end),
-        0x442 => look_row(e, code, 3, floats, top, end),
-        0x552 => look_row(e, code, 4, floats, top, end),
-        _ => oriented_row(e, code, key, floats, top, end),
+        0x1 => number_row(b, floats),
+        0x333 => lengths_row(b, floats),
+        0x223 => aer_row(b, floats),
+        0x4 => position_row(b, 3, floats),
+        0x5 => position_row(b, 4, floats),
+        0x24 => wan_row(b, 3, floats),
+        0x25 => wan_row(b, 4, floats),
+        0x2224 => body_row(b, 3, floats),
+        0x2225 => body_row(b, 4, floats),
+        0x442 => look_row(b, 3, floats),
+        0x552 => look_row(b, 4, floats),
+        _ => oriented_row(b, key, floats),
     }
 }
 
@@ -65,27 +67,19 @@ fn orientation_by(key: u64) -> Orientation
 }
 
 // The keys with a vector or a frame in them; where there are two, they share the orientation, and the first digit tells it.
-fn oriented_row(
-    e: Ellipsoid,
-    code: u64,
-    key: u64,
-    floats: &mut [f64; 2940],
-    top: usize,
-    end: usize,
-) -> Evaluated
-    requires { top + 105 ≤ 2940 }
-    ensures { ForKindsBeyond plain_keys e code key floats.old top end result floats.new }
+fn oriented_row(b: Bracket, key: u64, floats: &mut [f64; 2940]) -> Evaluated
+    ensures { ForKindsBeyond plain_keys b.e b.code key floats.old b.top b.end result floats.new }
 {
     let o = orientation_by(key);
     match key {
-        0x6 | 0x7 | 0x8 | 0x9 => vector_row(e, code, o, floats, top, end),
-        0x66 | 0x77 | 0x88 | 0x99 => vectors_row(e, code, o, floats, top, end),
-        0x61 | 0x71 | 0x81 | 0x91 => scale_row(e, code, o, floats, top, end),
-        0xa | 0xb | 0xc | 0xd => frame_row(e, code, o, floats, top, end),
-        0xa2 | 0xb2 | 0xd2 => turn_row(e, code, o, floats, top, end),
-        0xa4 | 0xb4 | 0xc4 | 0xd4 => to_row(e, code, o, floats, top, end),
-        0xa6 | 0xb7 | 0xc8 | 0xd9 => at_row(e, code, o, floats, top, end),
-        0xa6222 | 0xb7222 | 0xc8222 | 0xd9222 => move_row(e, code, o, floats, top, end),
+        0x6 | 0x7 | 0x8 | 0x9 => vector_row(b, o, floats),
+        0x66 | 0x77 | 0x88 | 0x99 => vectors_row(b, o, floats),
+        0x61 | 0x71 | 0x81 | 0x91 => scale_row(b, o, floats),
+        0xa | 0xb | 0xc | 0xd => frame_row(b, o, floats),
+        0xa2 | 0xb2 | 0xd2 => turn_row(b, o, floats),
+        0xa4 | 0xb4 | 0xc4 | 0xd4 => to_row(b, o, floats),
+        0xa6 | 0xb7 | 0xc8 | 0xd9 => at_row(b, o, floats),
+        0xa6222 | 0xb7222 | 0xc8222 | 0xd9222 => move_row(b, o, floats),
         _ => Evaluated::Sticks,
     }
 }

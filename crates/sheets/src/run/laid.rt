@@ -1,11 +1,82 @@
 // What is met or made, laid as floats from a place on: its kind's code and the place in the sheet after it, once the test of refusal 7 is passed.
 ghost use Rattle.std.specs.Prelude.{◌≡◌, ◌+◌, ◌≤◌};
-ghost use Rattle.sheets.specs.declared.Applied.{Applied};
-ghost use Rattle.sheets.specs.code.run.Evaluating.{tested_at, LaidAs};
+ghost use Rattle.sheets.specs.declared.Value.{Value};
+ghost use Rattle.sheets.specs.code.rows.Applied.{giving};
+ghost use Rattle.sheets.specs.code.run.Floats.{IsLaid};
+ghost use Rattle.sheets.specs.code.run.Evaluating.{tested_at, unapplied, LaidAs};
 
 use crate::rows::args::place_of;
 use crate::run::floats::{in_limit_at, lay_frame, lay_three};
-use crate::{Applied, Evaluated, Value};
+use crate::{Evaluated, Unapplied};
+use frames::{GeocentricPosition, GeodeticPosition, LocalFrame, LocalVector};
+use numbers::{Angle, Length};
+
+// What a value of a letter holds, where a row may give it. The type is known where it is laid, so that nothing has to be looked up in a value.
+pub trait AsFloats: Copy {
+    // The value that holds it.
+    ghost value: { Self → Value };
+
+    // Stores its floats from a place on, and answers its kind's code.
+    fn lay(self, floats: &mut [f64; 2940], top: usize) -> u8
+        requires { top + 21 ≤ 2940 }
+        ensures { IsLaid (value self) floats.old top result floats.new };
+}
+
+impl AsFloats for Angle {
+    ghost value = { Value.Radians };
+
+    fn lay(self, floats: &mut [f64; 2940], top: usize) -> u8 {
+        floats[top] = self.0;
+        1
+    }
+}
+
+impl AsFloats for Length {
+    ghost value = { Value.Metres };
+
+    fn lay(self, floats: &mut [f64; 2940], top: usize) -> u8 {
+        floats[top] = self.0;
+        2
+    }
+}
+
+impl AsFloats for GeocentricPosition {
+    ghost value = { Value.Geocentric };
+
+    fn lay(self, floats: &mut [f64; 2940], top: usize) -> u8 {
+        lay_three(floats, top, self.x.0, self.y.0, self.z.0);
+        3
+    }
+}
+
+impl AsFloats for GeodeticPosition {
+    ghost value = { Value.Geodetic };
+
+    fn lay(self, floats: &mut [f64; 2940], top: usize) -> u8 {
+        let n = self.hp.0;
+        lay_three(floats, top, n.x, n.y, n.z);
+        floats[top + 3] = self.height.0;
+        4
+    }
+}
+
+impl AsFloats for LocalVector {
+    ghost value = { Value.Vector };
+
+    fn lay(self, floats: &mut [f64; 2940], top: usize) -> u8 {
+        lay_three(floats, top, self.x.0, self.y.0, self.z.0);
+        5 + place_of(self.orientation)
+    }
+}
+
+impl AsFloats for LocalFrame {
+    ghost value = { Value.Frame };
+
+    fn lay(self, floats: &mut [f64; 2940], top: usize) -> u8 {
+        lay_frame(floats, top, self);
+        9 + place_of(self.orientation)
+    }
+}
 
 // The test of refusal 7, of the value of the kind with this code that lies at a place.
 pub fn tested(kind: u8, floats: &[f64; 2940], top: usize, end: usize) -> Evaluated
@@ -18,68 +89,32 @@ pub fn tested(kind: u8, floats: &[f64; 2940], top: usize, end: usize) -> Evaluat
     Evaluated::Stops(7)
 }
 
-// A value of a letter: 1 a, 2 l, 3 g, 4 d, 5 v, 6 f. No row gives a number.
-fn value_laid(letter: u8, v: Value, floats: &mut [f64; 2940], top: usize, end: usize) -> Evaluated
-    requires { (1 ≤ letter) × (top + 21 ≤ 2940) }
-    ensures { LaidAs letter (Applied.Value v) floats.old top end result floats.new }
-{
-    match letter {
-        1 => {
-            let Value::Radians(a) = v else {
-                return Evaluated::Sticks;
-            };
-            floats[top] = a.0;
-            tested(1, floats, top, end)
-        }
-        2 => {
-            let Value::Metres(l) = v else {
-                return Evaluated::Sticks;
-            };
-            floats[top] = l.0;
-            tested(2, floats, top, end)
-        }
-        3 => {
-            let Value::Geocentric(g) = v else {
-                return Evaluated::Sticks;
-            };
-            lay_three(floats, top, g.x.0, g.y.0, g.z.0);
-            tested(3, floats, top, end)
-        }
-        4 => {
-            let Value::Geodetic(d) = v else {
-                return Evaluated::Sticks;
-            };
-            lay_three(floats, top, d.hp.0.x, d.hp.0.y, d.hp.0.z);
-            floats[top + 3] = d.height.0;
-            tested(4, floats, top, end)
-        }
-        5 => {
-            let Value::Vector(w) = v else {
-                return Evaluated::Sticks;
-            };
-            lay_three(floats, top, w.x.0, w.y.0, w.z.0);
-            let o = w.orientation;
-            tested(5 + place_of(o), floats, top, end)
-        }
-        _ => {
-            let Value::Frame(p) = v else {
-                return Evaluated::Sticks;
-            };
-            lay_frame(floats, top, p);
-            let o = p.orientation;
-            tested(9 + place_of(o), floats, top, end)
+impl From<Unapplied> for Evaluated {
+    ghost from_gives = { λ u q. q ≡ unapplied u };
+
+    fn from(u: Unapplied) -> Evaluated {
+        match u {
+            Unapplied::NoRow => Evaluated::Sticks,
+            Unapplied::Centre => Evaluated::Stops(8),
         }
     }
 }
 
-// A row's answer, of a row whose value has this letter. The letter is known where it is called, so that nothing has to be looked up in the value.
-pub fn laid(letter: u8, r: Applied, floats: &mut [f64; 2940], top: usize, end: usize) -> Evaluated
-    requires { (1 ≤ letter) × (top + 21 ≤ 2940) }
-    ensures { LaidAs letter r floats.old top end result floats.new }
+// A row's answer.
+pub fn laid<T: AsFloats>(
+    r: Result<T, Unapplied>,
+    floats: &mut [f64; 2940],
+    top: usize,
+    end: usize,
+) -> Evaluated
+    requires { top + 21 ≤ 2940 }
+    ensures { LaidAs (giving T.value r) floats.old top end result floats.new }
 {
     match r {
-        Applied::Value(v) => value_laid(letter, v, floats, top, end),
-        Applied::NoRow => Evaluated::Sticks,
-        Applied::Centre => Evaluated::Stops(8),
+        Ok(x) => {
+            let kind = x.lay(floats, top);
+            tested(kind, floats, top, end)
+        }
+        Err(unapplied) => Evaluated::from(unapplied),
     }
 }

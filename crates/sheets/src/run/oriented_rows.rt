@@ -6,73 +6,50 @@ ghost use Rattle.sheets.specs.code.run.Evaluating.{RowLaid, axis_in};
 use crate::reader::words;
 use crate::rows::args::Axis;
 use crate::rows::frame_rows;
+use crate::run::bracket::Bracket;
 use crate::run::floats::{angle_at, frame_at, geocentric_at, number_at, vector_at};
 use crate::run::laid::laid;
 use crate::{Evaluated, rows};
-use frames::{Ellipsoid, Orientation};
+use frames::Orientation;
 
 // v: neg, swap, bearing, elev, range.
-pub fn vector_row(
-    e: Ellipsoid,
-    code: u64,
-    o: Orientation,
-    floats: &mut [f64; 2940],
-    top: usize,
-    end: usize,
-) -> Evaluated
-    requires { top + 105 ≤ 2940 }
-    ensures { RowLaid e code (vector o ∷ []) floats.old top end result floats.new }
+pub fn vector_row(b: Bracket, o: Orientation, floats: &mut [f64; 2940]) -> Evaluated
+    ensures { RowLaid b.e b.code (vector o ∷ []) floats.old b.top b.end result floats.new }
 {
-    let vector = vector_at(floats, top, o);
-    match code {
-        words::NEG => laid(5, rows::apply_neg(e, vector), floats, top, end),
-        words::SWAP => laid(5, rows::apply_swap(e, vector), floats, top, end),
-        words::BEARING => laid(1, rows::apply_bearing(e, vector), floats, top, end),
-        words::ELEV => laid(1, rows::apply_elev(e, vector), floats, top, end),
-        words::RANGE => laid(2, rows::apply_range(e, vector), floats, top, end),
+    let vector = vector_at(floats, b.top, o);
+    match b.code {
+        words::NEG => laid(rows::apply_neg(b.e, vector), floats, b.top, b.end),
+        words::SWAP => laid(rows::apply_swap(b.e, vector), floats, b.top, b.end),
+        words::BEARING => laid(rows::apply_bearing(b.e, vector), floats, b.top, b.end),
+        words::ELEV => laid(rows::apply_elev(b.e, vector), floats, b.top, b.end),
+        words::RANGE => laid(rows::apply_range(b.e, vector), floats, b.top, b.end),
         _ => Evaluated::Sticks,
     }
 }
 
 // v v: add, sub.
-pub fn vectors_row(
-    e: Ellipsoid,
-    code: u64,
-    o: Orientation,
-    floats: &mut [f64; 2940],
-    top: usize,
-    end: usize,
-) -> Evaluated
-    requires { top + 105 ≤ 2940 }
-    ensures { RowLaid e code (vector o ∷ vector o ∷ []) floats.old top end result floats.new }
+pub fn vectors_row(b: Bracket, o: Orientation, floats: &mut [f64; 2940]) -> Evaluated
+    ensures { RowLaid b.e b.code (vector o ∷ vector o ∷ []) floats.old b.top b.end result floats.new }
 {
-    let v = vector_at(floats, top, o);
-    let w = vector_at(floats, top + 21, o);
-    match code {
+    let v = vector_at(floats, b.top, o);
+    let w = vector_at(floats, b.top + 21, o);
+    match b.code {
         words::ADD | words::SUB => {
-            let minus = code == words::SUB;
-            laid(5, rows::apply_sum(e, minus, v, w), floats, top, end)
+            let minus = b.code == words::SUB;
+            laid(rows::apply_sum(b.e, minus, v, w), floats, b.top, b.end)
         }
         _ => Evaluated::Sticks,
     }
 }
 
 // v n: scale.
-pub fn scale_row(
-    e: Ellipsoid,
-    code: u64,
-    o: Orientation,
-    floats: &mut [f64; 2940],
-    top: usize,
-    end: usize,
-) -> Evaluated
-    requires { top + 105 ≤ 2940 }
-    ensures { RowLaid e code (vector o ∷ number ∷ []) floats.old top end result floats.new }
+pub fn scale_row(b: Bracket, o: Orientation, floats: &mut [f64; 2940]) -> Evaluated
+    ensures { RowLaid b.e b.code (vector o ∷ number ∷ []) floats.old b.top b.end result floats.new }
 {
-    let vector = vector_at(floats, top, o);
-    let factor = number_at(floats, top + 21);
-    if code == words::SCALE {
-        return laid(5, rows::apply_scale(e, vector, factor), floats, top, end);
+    let vector = vector_at(floats, b.top, o);
+    let factor = number_at(floats, b.top + 21);
+    if b.code == words::SCALE {
+        return laid(rows::apply_scale(b.e, vector, factor), floats, b.top, b.end);
     }
     Evaluated::Sticks
 }
@@ -89,112 +66,76 @@ fn axis_in(code: u64) -> Axis
 }
 
 // f: origin, rz, ry, rx.
-pub fn frame_row(
-    e: Ellipsoid,
-    code: u64,
-    o: Orientation,
-    floats: &mut [f64; 2940],
-    top: usize,
-    end: usize,
-) -> Evaluated
-    requires { top + 105 ≤ 2940 }
-    ensures { RowLaid e code (frame o ∷ []) floats.old top end result floats.new }
+pub fn frame_row(b: Bracket, o: Orientation, floats: &mut [f64; 2940]) -> Evaluated
+    ensures { RowLaid b.e b.code (frame o ∷ []) floats.old b.top b.end result floats.new }
 {
-    let frame = frame_at(floats, top, o);
-    match code {
-        words::ORIGIN => laid(3, rows::apply_origin(e, frame), floats, top, end),
+    let frame = frame_at(floats, b.top, o);
+    match b.code {
+        words::ORIGIN => laid(rows::apply_origin(b.e, frame), floats, b.top, b.end),
         words::RZ | words::RY | words::RX => {
-            let axis = axis_in(code);
-            laid(1, rows::apply_angle(e, axis, frame), floats, top, end)
+            let axis = axis_in(b.code);
+            laid(rows::apply_angle(b.e, axis, frame), floats, b.top, b.end)
         }
         _ => Evaluated::Sticks,
     }
 }
 
 // f a: turn.
-pub fn turn_row(
-    e: Ellipsoid,
-    code: u64,
-    o: Orientation,
-    floats: &mut [f64; 2940],
-    top: usize,
-    end: usize,
-) -> Evaluated
-    requires { top + 105 ≤ 2940 }
-    ensures { RowLaid e code (frame o ∷ angle ∷ []) floats.old top end result floats.new }
+pub fn turn_row(b: Bracket, o: Orientation, floats: &mut [f64; 2940]) -> Evaluated
+    ensures { RowLaid b.e b.code (frame o ∷ angle ∷ []) floats.old b.top b.end result floats.new }
 {
-    let frame = frame_at(floats, top, o);
-    let angle = angle_at(floats, top + 21);
-    if code == words::TURN {
-        return laid(6, frame_rows::apply_turn(e, frame, angle), floats, top, end);
+    let frame = frame_at(floats, b.top, o);
+    let angle = angle_at(floats, b.top + 21);
+    if b.code == words::TURN {
+        return laid(
+            frame_rows::apply_turn(b.e, frame, angle),
+            floats,
+            b.top,
+            b.end,
+        );
     }
     Evaluated::Sticks
 }
 
 // f g: to.
-pub fn to_row(
-    e: Ellipsoid,
-    code: u64,
-    o: Orientation,
-    floats: &mut [f64; 2940],
-    top: usize,
-    end: usize,
-) -> Evaluated
-    requires { top + 105 ≤ 2940 }
-    ensures { RowLaid e code (frame o ∷ geocentric ∷ []) floats.old top end result floats.new }
+pub fn to_row(b: Bracket, o: Orientation, floats: &mut [f64; 2940]) -> Evaluated
+    ensures { RowLaid b.e b.code (frame o ∷ geocentric ∷ []) floats.old b.top b.end result floats.new }
 {
-    let frame = frame_at(floats, top, o);
-    let position = geocentric_at(floats, top + 21);
-    if code == words::TO {
-        return laid(5, rows::apply_to(e, frame, position), floats, top, end);
+    let frame = frame_at(floats, b.top, o);
+    let position = geocentric_at(floats, b.top + 21);
+    if b.code == words::TO {
+        return laid(rows::apply_to(b.e, frame, position), floats, b.top, b.end);
     }
     Evaluated::Sticks
 }
 
 // f v: at.
-pub fn at_row(
-    e: Ellipsoid,
-    code: u64,
-    o: Orientation,
-    floats: &mut [f64; 2940],
-    top: usize,
-    end: usize,
-) -> Evaluated
-    requires { top + 105 ≤ 2940 }
-    ensures { RowLaid e code (frame o ∷ vector o ∷ []) floats.old top end result floats.new }
+pub fn at_row(b: Bracket, o: Orientation, floats: &mut [f64; 2940]) -> Evaluated
+    ensures { RowLaid b.e b.code (frame o ∷ vector o ∷ []) floats.old b.top b.end result floats.new }
 {
-    let frame = frame_at(floats, top, o);
-    let vector = vector_at(floats, top + 21, o);
-    if code == words::AT {
-        return laid(3, rows::apply_at(e, frame, vector), floats, top, end);
+    let frame = frame_at(floats, b.top, o);
+    let vector = vector_at(floats, b.top + 21, o);
+    if b.code == words::AT {
+        return laid(rows::apply_at(b.e, frame, vector), floats, b.top, b.end);
     }
     Evaluated::Sticks
 }
 
 // f v a a a: move.
-pub fn move_row(
-    e: Ellipsoid,
-    code: u64,
-    o: Orientation,
-    floats: &mut [f64; 2940],
-    top: usize,
-    end: usize,
-) -> Evaluated
-    requires { top + 105 ≤ 2940 }
-    ensures { RowLaid e code (frame o ∷ vector o ∷ angle ∷ angle ∷ angle ∷ []) floats.old top end result floats.new }
+pub fn move_row(b: Bracket, o: Orientation, floats: &mut [f64; 2940]) -> Evaluated
+    ensures { RowLaid b.e b.code (frame o ∷ vector o ∷ angle ∷ angle ∷ angle ∷ []) floats.old b.top b.end result floats.new }
 {
-    let frame = frame_at(floats, top, o);
-    let vector = vector_at(floats, top + 21, o);
-    let yaw = angle_at(floats, top + 42);
-    let pitch = angle_at(floats, top + 63);
-    let roll = angle_at(floats, top + 84);
-    if code == words::MOVE {
+    let frame = frame_at(floats, b.top, o);
+    let vector = vector_at(floats, b.top + 21, o);
+    let yaw = angle_at(floats, b.top + 42);
+    let pitch = angle_at(floats, b.top + 63);
+    let roll = angle_at(floats, b.top + 84);
+    if b.code == words::MOVE {
         return laid(
-            6,
-            frame_rows::apply_move(e, frame, vector, yaw, pitch, roll),
+            frame_rows::apply_move(b.e, frame, vector, yaw, pitch, roll),
             floats,
-            top,
-            end,
+            b.top,
+            b.end,
         );
     }
     Evaluated::Sticks

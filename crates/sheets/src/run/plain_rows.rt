@@ -1,6 +1,5 @@
 // The rows over kinds without an orientation, a function for each list of kinds, P being g or d: the arguments lie as floats, 21 places apart, and the value is laid where the first one lies.
 // So each row is called at values whose kinds are known.
-// The first argument of `laid` is the letter of the row's value, and no kind's code: 1 a, 2 l, 3 g, 4 d, 5 v, 6 f.
 ghost use Rattle.std.specs.Prelude.{◌≡◌, [], ◌∷◌, ◌+◌, ◌≤◌};
 ghost use Rattle.sheets.specs.Kinds.{number, angle, len};
 ghost use Rattle.sheets.specs.code.rows.KindCodes.{kind_at};
@@ -8,26 +7,20 @@ ghost use Rattle.sheets.specs.code.run.Evaluating.{RowLaid, orientation_in};
 
 use crate::reader::words;
 use crate::rows::frame_rows;
+use crate::run::bracket::Bracket;
 use crate::run::floats::{angle_at, length_at, number_at, value_at};
 use crate::run::laid::laid;
 use crate::{Evaluated, rows};
-use frames::{Ellipsoid, Orientation};
+use frames::Orientation;
 
 // n: deg, m.
-pub fn number_row(
-    e: Ellipsoid,
-    code: u64,
-    floats: &mut [f64; 2940],
-    top: usize,
-    end: usize,
-) -> Evaluated
-    requires { top + 105 ≤ 2940 }
-    ensures { RowLaid e code (number ∷ []) floats.old top end result floats.new }
+pub fn number_row(b: Bracket, floats: &mut [f64; 2940]) -> Evaluated
+    ensures { RowLaid b.e b.code (number ∷ []) floats.old b.top b.end result floats.new }
 {
-    let number = number_at(floats, top);
-    match code {
-        words::DEG => laid(1, rows::apply_deg(e, number), floats, top, end),
-        words::M => laid(2, rows::apply_m(e, number), floats, top, end),
+    let number = number_at(floats, b.top);
+    match b.code {
+        words::DEG => laid(rows::apply_deg(b.e, number), floats, b.top, b.end),
+        words::M => laid(rows::apply_m(b.e, number), floats, b.top, b.end),
         _ => Evaluated::Sticks,
     }
 }
@@ -45,59 +38,43 @@ fn orientation_in(code: u64) -> Orientation
 }
 
 // l l l: geo, and venu to vwan.
-pub fn lengths_row(
-    e: Ellipsoid,
-    code: u64,
-    floats: &mut [f64; 2940],
-    top: usize,
-    end: usize,
-) -> Evaluated
-    requires { top + 105 ≤ 2940 }
-    ensures { RowLaid e code (len ∷ len ∷ len ∷ []) floats.old top end result floats.new }
+pub fn lengths_row(b: Bracket, floats: &mut [f64; 2940]) -> Evaluated
+    ensures { RowLaid b.e b.code (len ∷ len ∷ len ∷ []) floats.old b.top b.end result floats.new }
 {
-    let x = length_at(floats, top);
-    let y = length_at(floats, top + 21);
-    let z = length_at(floats, top + 42);
-    match code {
-        words::GEO => laid(3, rows::apply_geo(e, x, y, z), floats, top, end),
+    let x = length_at(floats, b.top);
+    let y = length_at(floats, b.top + 21);
+    let z = length_at(floats, b.top + 42);
+    match b.code {
+        words::GEO => laid(rows::apply_geo(b.e, x, y, z), floats, b.top, b.end),
         words::VENU | words::VNED | words::VBODY | words::VWAN => {
-            let o = orientation_in(code);
-            laid(5, rows::apply_vector(e, o, x, y, z), floats, top, end)
+            let o = orientation_in(b.code);
+            laid(rows::apply_vector(b.e, o, x, y, z), floats, b.top, b.end)
         }
         _ => Evaluated::Sticks,
     }
 }
 
 // a a l: lla of latitude, longitude, height, and aenu to awan of azimuth, elevation, range.
-pub fn aer_row(
-    e: Ellipsoid,
-    code: u64,
-    floats: &mut [f64; 2940],
-    top: usize,
-    end: usize,
-) -> Evaluated
-    requires { top + 105 ≤ 2940 }
-    ensures { RowLaid e code (angle ∷ angle ∷ len ∷ []) floats.old top end result floats.new }
+pub fn aer_row(b: Bracket, floats: &mut [f64; 2940]) -> Evaluated
+    ensures { RowLaid b.e b.code (angle ∷ angle ∷ len ∷ []) floats.old b.top b.end result floats.new }
 {
-    let azimuth = angle_at(floats, top);
-    let elevation = angle_at(floats, top + 21);
-    let range = length_at(floats, top + 42);
-    match code {
+    let azimuth = angle_at(floats, b.top);
+    let elevation = angle_at(floats, b.top + 21);
+    let range = length_at(floats, b.top + 42);
+    match b.code {
         words::LLA => laid(
-            4,
-            rows::apply_lla(e, azimuth, elevation, range),
+            rows::apply_lla(b.e, azimuth, elevation, range),
             floats,
-            top,
-            end,
+            b.top,
+            b.end,
         ),
         words::AENU | words::ANED | words::ABODY | words::AWAN => {
-            let o = orientation_in(code);
+            let o = orientation_in(b.code);
             laid(
-                5,
-                rows::apply_aer(e, o, azimuth, elevation, range),
+                rows::apply_aer(b.e, o, azimuth, elevation, range),
                 floats,
-                top,
-                end,
+                b.top,
+                b.end,
             )
         }
         _ => Evaluated::Sticks,
@@ -105,29 +82,21 @@ pub fn aer_row(
 }
 
 // P: togeo, tolla, enu, ned. P is the kind with this code, g or d; the row itself answers togeo of g and tolla of d.
-pub fn position_row(
-    e: Ellipsoid,
-    code: u64,
-    kind: u8,
-    floats: &mut [f64; 2940],
-    top: usize,
-    end: usize,
-) -> Evaluated
-    requires { (3 ≤ kind) × (kind ≤ 4) × (top + 105 ≤ 2940) }
-    ensures { RowLaid e code (kind_at kind ∷ []) floats.old top end result floats.new }
+pub fn position_row(b: Bracket, kind: u8, floats: &mut [f64; 2940]) -> Evaluated
+    requires { (3 ≤ kind) × (kind ≤ 4) }
+    ensures { RowLaid b.e b.code (kind_at kind ∷ []) floats.old b.top b.end result floats.new }
 {
-    let position = value_at(kind, floats, top);
-    match code {
-        words::TOGEO => laid(3, frame_rows::apply_togeo(e, position), floats, top, end),
-        words::TOLLA => laid(4, frame_rows::apply_tolla(e, position), floats, top, end),
+    let position = value_at(kind, floats, b.top);
+    match b.code {
+        words::TOGEO => laid(frame_rows::apply_togeo(b.e, position), floats, b.top, b.end),
+        words::TOLLA => laid(frame_rows::apply_tolla(b.e, position), floats, b.top, b.end),
         words::ENU | words::NED => {
-            let ned = code == words::NED;
+            let ned = b.code == words::NED;
             laid(
-                6,
-                frame_rows::apply_level(e, ned, position),
+                frame_rows::apply_level(b.e, ned, position),
                 floats,
-                top,
-                end,
+                b.top,
+                b.end,
             )
         }
         _ => Evaluated::Sticks,
@@ -135,81 +104,54 @@ pub fn position_row(
 }
 
 // a P: wan.
-pub fn wan_row(
-    e: Ellipsoid,
-    code: u64,
-    kind: u8,
-    floats: &mut [f64; 2940],
-    top: usize,
-    end: usize,
-) -> Evaluated
-    requires { top + 105 ≤ 2940 }
-    ensures { RowLaid e code (angle ∷ kind_at kind ∷ []) floats.old top end result floats.new }
+pub fn wan_row(b: Bracket, kind: u8, floats: &mut [f64; 2940]) -> Evaluated
+    ensures { RowLaid b.e b.code (angle ∷ kind_at kind ∷ []) floats.old b.top b.end result floats.new }
 {
-    let azimuth = angle_at(floats, top);
-    let position = value_at(kind, floats, top + 21);
-    if code == words::WAN {
+    let azimuth = angle_at(floats, b.top);
+    let position = value_at(kind, floats, b.top + 21);
+    if b.code == words::WAN {
         return laid(
-            6,
-            frame_rows::apply_wan(e, azimuth, position),
+            frame_rows::apply_wan(b.e, azimuth, position),
             floats,
-            top,
-            end,
+            b.top,
+            b.end,
         );
     }
     Evaluated::Sticks
 }
 
 // a a a P: body.
-pub fn body_row(
-    e: Ellipsoid,
-    code: u64,
-    kind: u8,
-    floats: &mut [f64; 2940],
-    top: usize,
-    end: usize,
-) -> Evaluated
-    requires { top + 105 ≤ 2940 }
-    ensures { RowLaid e code (angle ∷ angle ∷ angle ∷ kind_at kind ∷ []) floats.old top end result floats.new }
+pub fn body_row(b: Bracket, kind: u8, floats: &mut [f64; 2940]) -> Evaluated
+    ensures { RowLaid b.e b.code (angle ∷ angle ∷ angle ∷ kind_at kind ∷ []) floats.old b.top b.end result floats.new }
 {
-    let yaw = angle_at(floats, top);
-    let pitch = angle_at(floats, top + 21);
-    let roll = angle_at(floats, top + 42);
-    let position = value_at(kind, floats, top + 63);
-    if code == words::BODY {
+    let yaw = angle_at(floats, b.top);
+    let pitch = angle_at(floats, b.top + 21);
+    let roll = angle_at(floats, b.top + 42);
+    let position = value_at(kind, floats, b.top + 63);
+    if b.code == words::BODY {
         return laid(
-            6,
-            frame_rows::apply_body(e, yaw, pitch, roll, position),
+            frame_rows::apply_body(b.e, yaw, pitch, roll, position),
             floats,
-            top,
-            end,
+            b.top,
+            b.end,
         );
     }
     Evaluated::Sticks
 }
 
 // P P a: look.
-pub fn look_row(
-    e: Ellipsoid,
-    code: u64,
-    kind: u8,
-    floats: &mut [f64; 2940],
-    top: usize,
-    end: usize,
-) -> Evaluated
-    requires { top + 105 ≤ 2940 }
-    ensures { RowLaid e code (kind_at kind ∷ kind_at kind ∷ angle ∷ []) floats.old top end result floats.new }
+pub fn look_row(b: Bracket, kind: u8, floats: &mut [f64; 2940]) -> Evaluated
+    ensures { RowLaid b.e b.code (kind_at kind ∷ kind_at kind ∷ angle ∷ []) floats.old b.top b.end result floats.new }
 {
-    let position = value_at(kind, floats, top);
-    let target = value_at(kind, floats, top + 21);
-    let roll = angle_at(floats, top + 42);
-    if code == words::LOOK {
+    let position = value_at(kind, floats, b.top);
+    let target = value_at(kind, floats, b.top + 21);
+    let roll = angle_at(floats, b.top + 42);
+    if b.code == words::LOOK {
         return laid(
-            6,
-            frame_rows::apply_look(e, position, target, roll),
+            frame_rows::apply_look(b.e, position, target, roll),
             floats,
-            top,
-            end,
+            b.top,
+            b.end,
         );
     }
     Evaluated::Sticks

@@ -1,23 +1,27 @@
 -- `sheets::rows::apply_at` meets its contract. Assumes nothing.
-use mathlib.Core.Path.{refl, sym, ◌∙◌}
-use Rattle.sheets.specs.Letters.{hold}
+use mathlib.Core.Path.{refl}
+use Rattle.sheets.specs.Letters.{hold, 𝐟, 𝐯}
 use Rattle.sheets.specs.Table.{table}
 use Rattle.sheets.specs.Lookup.{find}
-use Rattle.sheets.proofs.rows.HeldLaws.{is-𝐟, is-𝐯, not-𝐟, not-𝐯}
+use Rattle.sheets.proofs.rows.HeldLaws.{taken, refused, same, differs}
 use Rattle.sheets.proofs.rows.apply_at.Goals as goal
 
-pub returns-in_default : goal.returns-in_default
+pub returns-in_err-f : goal.returns-in_err-f
 unfolding table find hold
-returns-in_default c = rw (not-𝐟 _ c.in_default.not-Frame) refl
+returns-in_err-f c =
+    let h = refused 𝐟 _ c.in_err-f.ensures c.from_residual.ensures.1 in
+    rw (h.0, h.1) refl
 
-pub returns-in_default-vector : goal.returns-in_default-vector
+pub returns-in_err-v : goal.returns-in_err-v
 unfolding table find hold
-returns-in_default-vector c = rw (is-𝐟 c.in-Frame.is, not-𝐯 _ c.in_default-vector.not-Vector) refl
+returns-in_err-v c =
+    let h = refused 𝐯 _ c.in_err-v.ensures c.from_residual-in_err-v.ensures.1 in
+    rw (h.0, taken 𝐟 _ c.in_ok-f.ensures, h.1) refl
 
-pub returns-then-same_orientation : goal.returns-then-same_orientation
+pub returns-then-ne : goal.returns-then-ne
 unfolding table find hold
-returns-then-same_orientation c = rw (c.gives_geocentric.ensures, is-𝐟 c.in-Frame.is, is-𝐯 c.in-Vector.is, sym c.same_orientation.ensures ∙ c.if-same_orientation.true, c.destination_position.ensures) refl
+returns-then-ne c = rw (taken 𝐟 _ c.in_ok-f.ensures, taken 𝐯 _ c.in_ok-v.ensures, differs c.in_ok-f.f.orientation c.in_ok-v.v.orientation c.if-ne.ensures) refl
 
-pub returns-else-same_orientation : goal.returns-else-same_orientation
+pub returns : goal.returns
 unfolding table find hold
-returns-else-same_orientation c = rw (is-𝐟 c.in-Frame.is, is-𝐯 c.in-Vector.is, sym c.same_orientation.ensures ∙ c.if-same_orientation.false) refl
+returns c = rw (taken 𝐟 _ c.in_ok-f.ensures, taken 𝐯 _ c.in_ok-v.ensures, same c.in_ok-f.f.orientation c.in_ok-v.v.orientation c.if-ne.ensures, c.destination_position.ensures) refl

@@ -1,15 +1,17 @@
 -- `sheets::rows::apply_range` meets its contract. Assumes nothing.
 use mathlib.Core.Path.{refl}
-use Rattle.sheets.specs.Letters.{hold}
+use Rattle.sheets.specs.Letters.{hold, 𝐯}
 use Rattle.sheets.specs.Table.{table}
 use Rattle.sheets.specs.Lookup.{find}
-use Rattle.sheets.proofs.rows.HeldLaws.{is-𝐯, not-𝐯}
+use Rattle.sheets.proofs.rows.HeldLaws.{taken, refused}
 use Rattle.sheets.proofs.rows.apply_range.Goals as goal
 
-pub returns-in_default : goal.returns-in_default
+pub returns-in_err-v : goal.returns-in_err-v
 unfolding table find hold
-returns-in_default c = rw (not-𝐯 _ c.in_default.not-Vector) refl
+returns-in_err-v c =
+    let h = refused 𝐯 _ c.in_err-v.ensures c.from_residual.ensures.1 in
+    rw (h.0, h.1) refl
 
 pub returns : goal.returns
 unfolding table find hold
-returns c = rw (c.gives_length.ensures, is-𝐯 c.in-Vector.is, c.slant_range.ensures) refl
+returns c = rw (taken 𝐯 _ c.in_ok-v.ensures, c.slant_range.ensures) refl

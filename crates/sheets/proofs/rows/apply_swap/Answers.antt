@@ -1,19 +1,21 @@
 -- `sheets::rows::apply_swap` meets its contract. Assumes nothing.
-use mathlib.Core.Path.{refl, sym, ◌∙◌}
-use Rattle.sheets.specs.Letters.{hold}
+use mathlib.Core.Path.{refl}
+use Rattle.sheets.specs.Letters.{hold, 𝐯}
 use Rattle.sheets.specs.Table.{table}
 use Rattle.sheets.specs.Lookup.{find}
-use Rattle.sheets.proofs.rows.HeldLaws.{is-𝐯, not-𝐯}
+use Rattle.sheets.proofs.rows.HeldLaws.{taken, refused, enu-or-ned, body-or-wan}
 use Rattle.sheets.proofs.rows.apply_swap.Goals as goal
 
-pub returns-in_default : goal.returns-in_default
+pub returns-in_err-v : goal.returns-in_err-v
 unfolding table find hold
-returns-in_default c = rw (not-𝐯 _ c.in_default.not-Vector) refl
+returns-in_err-v c =
+    let h = refused 𝐯 _ c.in_err-v.ensures c.from_residual.ensures.1 in
+    rw (h.0, h.1) refl
 
-pub returns-then-enu_or_ned : goal.returns-then-enu_or_ned
+pub returns-in-Enu : goal.returns-in-Enu
 unfolding table find hold
-returns-then-enu_or_ned c = rw (c.gives_vector.ensures, is-𝐯 c.in-Vector.is, sym c.enu_or_ned.ensures ∙ c.if-enu_or_ned.true, c.swap.ensures) refl
+returns-in-Enu c = rw (taken 𝐯 _ c.in_ok-v.ensures, enu-or-ned c.in_ok-v.v.orientation c.in-Enu.is, c.swap.ensures) refl
 
-pub returns-else-enu_or_ned : goal.returns-else-enu_or_ned
+pub returns-in-Body : goal.returns-in-Body
 unfolding table find hold
-returns-else-enu_or_ned c = rw (is-𝐯 c.in-Vector.is, sym c.enu_or_ned.ensures ∙ c.if-enu_or_ned.false) refl
+returns-in-Body c = rw (taken 𝐯 _ c.in_ok-v.ensures, body-or-wan c.in_ok-v.v.orientation c.in-Body.is) refl

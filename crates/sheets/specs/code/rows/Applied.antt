@@ -1,41 +1,54 @@
 -- What the code's operators answer, against the rows of the kind table.
-use Rattle.std.specs.Prelude.{[], ◌∷◌, Bool, true, false}
+use Rattle.std.specs.Prelude.{◌≡◌, List, Bool, true, false, Result, Ok, Err, ⊤}
 use Rattle.std.proofs.Math.Option.{Option, none, some}
 use Rattle.frames.specs.declared.Ellipsoid.{Ellipsoid}
+use Rattle.frames.specs.declared.GeocentricPosition.{GeocentricPosition}
 use Rattle.frames.specs.declared.Orientation.{Orientation}
 use Rattle.frames.specs.declared.Orientation.TheVariants.{Enu, Ned, Body, Wan}
-use Rattle.sheets.specs.declared.Applied.{Applied}
-use Rattle.sheets.specs.declared.Applied.TheVariants.{Value as value, NoRow, Centre}
-use Rattle.sheets.specs.declared.rows.args.Lengths.{Lengths}
-use Rattle.sheets.specs.declared.rows.args.Aer.{Aer}
+use Rattle.sheets.specs.declared.Unapplied.{Unapplied}
+use Rattle.sheets.specs.declared.Unapplied.TheVariants.{NoRow, Centre}
+use Rattle.sheets.specs.declared.Value.{Value}
 use Rattle.sheets.specs.declared.rows.args.Axis.{Axis}
 use Rattle.sheets.specs.Text.{Word, ascii}
-use Rattle.sheets.specs.Letters.{Holds, 𝐚, 𝐥}
-use Rattle.sheets.specs.Table.{on}
-use Rattle.sheets.specs.Lookup.{Hit}
-
--- ---- the answer
-
-abbrev pub unless_near : Bool → Applied → Applied
-unless_near true x = x
-unless_near false x = Centre
-
--- the row that fits: the test of refusal 8, then the row by its definition, before the test of refusal 7
-abbrev pub applied : Ellipsoid → Option Hit → Applied
-applied e none = NoRow
-applied e (some h) =
-    let r = h.row in
-    unless_near (on r.takes (r.centred e) h.args) (value (on r.takes (r.apply e) h.args))
+use Rattle.sheets.specs.Letters.{Letter, ⟦◌⟧, held}
+use Rattle.sheets.specs.Table.{on, far, table}
+use Rattle.sheets.specs.Lookup.{Hit, find}
 
 -- ---- the arguments
 
-abbrev pub lengths : Lengths → Option (Holds (𝐥 ∷ 𝐥 ∷ 𝐥 ∷ []))
-lengths (Lengths.Are x y z) = some (x, (y, (z, tt)))
-lengths Lengths.Not = none
+abbrev pub or_no_row : {X : Type 0} → Option X → Result X Unapplied
+or_no_row none = Err NoRow
+or_no_row (some x) = Ok x
 
-abbrev pub aer : Aer → Option (Holds (𝐚 ∷ 𝐚 ∷ 𝐥 ∷ []))
-aer (Aer.Are x y z) = some (x, (y, (z, tt)))
-aer Aer.Not = none
+-- what a value holds, where it is of the letter
+abbrev pub argument : (s : Letter) → Value → Result ⟦ s ⟧ Unapplied
+argument s v = or_no_row (held s v)
+
+-- ---- the answer
+
+abbrev pub unless_near : {X : Type 0} → Bool → X → Result X Unapplied
+unless_near true x = Ok x
+unless_near false x = Err Centre
+
+-- the test of refusal 8
+abbrev pub far_enough : Ellipsoid → GeocentricPosition → Result ⊤ Unapplied
+far_enough e g = unless_near (far e g) tt
+
+-- the row that fits: the test of refusal 8, then the row by its definition, before the test of refusal 7
+abbrev pub applied : Ellipsoid → Option Hit → Result Value Unapplied
+applied e none = Err NoRow
+applied e (some h) =
+    let r = h.row in
+    unless_near (on r.takes (r.centred e) h.args) (on r.takes (r.apply e) h.args)
+
+-- an answer of one letter, as one of a value
+abbrev pub giving : {X : Type 0} → (X → Value) → Result X Unapplied → Result Value Unapplied
+giving value (Ok x) = Ok (value x)
+giving value (Err u) = Err u
+
+-- r answers the row for a word over values
+abbrev pub RowGives : {X : Type 0} → (X → Value) → Ellipsoid → Word → List Value → Result X Unapplied → Type 0
+RowGives value e w vs r = giving value r ≡ applied e (find table w vs)
 
 -- ---- words by an orientation, an axis or a choice of two
 

@@ -1,18 +1,19 @@
 -- What the evaluator answers, by what the machine comes to.
 -- No part of what must be believed: the run's answer is said by the machine.
-use Rattle.std.specs.Prelude.{ℕ, ◌+◌, ◌/◌, ◌≡◌, List, [], ◌∷◌, ◌++◌, eqb, ltb, length, Float}
+use Rattle.std.specs.Prelude.{ℕ, ◌+◌, ◌/◌, ◌≡◌, List, [], ◌∷◌, ◌++◌, eqb, ltb, length, Float, Result, Ok, Err}
 use mir.Val.{has_key}
 use Rattle.frames.specs.declared.Ellipsoid.{Ellipsoid}
 use Rattle.frames.specs.declared.Orientation.{Orientation}
 use Rattle.frames.specs.declared.Orientation.TheVariants.{Enu, Ned, Body, Wan}
 use Rattle.sheets.specs.declared.Value.{Value}
-use Rattle.sheets.specs.declared.Applied.{Applied}
+use Rattle.sheets.specs.declared.Unapplied.{Unapplied}
+use Rattle.sheets.specs.declared.Unapplied.TheVariants.{NoRow, Centre}
 use Rattle.sheets.specs.declared.rows.args.Axis.{Axis}
 use Rattle.sheets.specs.declared.Evaluated.{Evaluated}
 use Rattle.sheets.specs.Text.{Word}
 use Rattle.sheets.specs.Trees.{Expr, Exprs}
 use Rattle.sheets.specs.Grammar.{IsWord}
-use Rattle.sheets.specs.Kinds.{Kind, kind_of, kind_code, letter_of, place}
+use Rattle.sheets.specs.Kinds.{Kind, kind_of, kind_code, place}
 use Rattle.sheets.specs.Limits.{in_limit}
 use Rattle.sheets.specs.Table.{when, table}
 use Rattle.sheets.specs.Lookup.{find}
@@ -52,14 +53,19 @@ tested_at k f at n = when (in_limit (value_at (kind_at k) f at)) (Evaluated.Is k
 -- ---- a row
 
 -- what the machine's step comes to by a row's answer
-abbrev pub out_of : Applied → Out Value
-out_of (Applied.Value x) = result x
-out_of Applied.NoRow = sticks []
-out_of Applied.Centre = stops [] centre
+abbrev pub out_of : Result Value Unapplied → Out Value
+out_of (Ok x) = result x
+out_of (Err NoRow) = sticks []
+out_of (Err Centre) = stops [] centre
 
--- q answers a row's answer, whose value is of a letter
-pub record LaidAs (letter : ℕ) (r : Applied) (f : List Float) (at n : ℕ) (q : Evaluated) (f' : List Float) : Type 0 where
-  pub is : length f ≡ 2940 → ((v : Value) → r ≡ Applied.Value v → letter_of (kind_of v) ≡ letter) → Answers (out_of r) n at f q f'
+-- where there is no value: the machine sticks, or refusal 8 stops it
+abbrev pub unapplied : Unapplied → Evaluated
+unapplied NoRow = Evaluated.Sticks
+unapplied Centre = Evaluated.Stops (refusal_number (stop centre))
+
+-- q answers a row's answer
+pub record LaidAs (r : Result Value Unapplied) (f : List Float) (at n : ℕ) (q : Evaluated) (f' : List Float) : Type 0 where
+  pub is : length f ≡ 2940 → Answers (out_of r) n at f q f'
 
 -- q answers the row for the word with this code over values of these kinds that lie at a place
 pub record RowLaid (e : Ellipsoid) (code : ℕ) (ks : List Kind) (f : List Float) (at n : ℕ) (q : Evaluated) (f' : List Float) : Type 0 where

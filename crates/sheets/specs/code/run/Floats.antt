@@ -9,7 +9,7 @@ use Rattle.frames.specs.declared.LocalFrame.{LocalFrame}
 use Rattle.sheets.specs.declared.Value.{Value}
 use Rattle.sheets.specs.declared.Value.TheVariants.{Number, Radians, Metres, Geocentric, Geodetic, Vector, Frame}
 use Rattle.sheets.specs.Output.{components}
-use Rattle.sheets.specs.Kinds.{Kind, number, angle, len, geocentric, geodetic, vector, frame, kind_of}
+use Rattle.sheets.specs.Kinds.{Kind, number, angle, len, geocentric, geodetic, vector, frame, kind_of, kind_code}
 
 -- ---- read
 
@@ -66,3 +66,9 @@ pub record KeptBelow (f : List Float) (i : ℕ) (f' : List Float) : Type 0 where
 pub record Copied (f : List Float) (from to : ℕ) (f' : List Float) : Type 0 where
   pub kept : KeptBelow f to f'
   pub is : length f ≡ 2940 → from + 21 ≤ to → (m : ℕ) → m < 21 → float_at f' (to + m) ≡ float_at f (from + m)
+
+-- v was laid from a place on where f was and f' is now, and k is its kind's code
+pub record IsLaid (v : Value) (f : List Float) (i k : ℕ) (f' : List Float) : Type 0 where
+  pub code : k ≡ kind_code (kind_of v)
+  pub lies : length f ≡ 2940 → Lies f' i v
+  pub kept : KeptBelow f i f'

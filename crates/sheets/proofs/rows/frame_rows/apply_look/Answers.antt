@@ -1,39 +1,49 @@
 -- `sheets::rows::frame_rows::apply_look` meets its contract. Assumes nothing.
-use mathlib.Core.Path.{refl, sym, ◌∙◌}
+use mathlib.Core.Path.{refl}
 use Rattle.frames.specs.Frames.{looking_at_geocentric, looking_at_geodetic}
-use Rattle.sheets.specs.Letters.{hold}
+use Rattle.sheets.specs.Letters.{hold, 𝐚, 𝐠, 𝐝}
 use Rattle.sheets.specs.Table.{table}
 use Rattle.sheets.specs.Lookup.{find}
-use Rattle.sheets.proofs.rows.HeldLaws.{is-𝐚, is-𝐝, is-𝐠, not-𝐝, not-𝐠, not-𝐚, 𝐝-not-𝐠, 𝐠-not-𝐝}
+use Rattle.sheets.proofs.rows.HeldLaws.{taken, refused, far-is, near-is, is-𝐝, is-𝐠, not-𝐝, not-𝐠, 𝐝-not-𝐠, 𝐠-not-𝐝}
 use Rattle.sheets.proofs.rows.frame_rows.apply_look.Goals as goal
 
-pub returns-in_default-target : goal.returns-in_default-target
+pub returns-in_err-t-in-Geocentric : goal.returns-in_err-t-in-Geocentric
 unfolding table find hold
-returns-in_default-target c = rw (is-𝐠 c.in-Geocentric.is, 𝐠-not-𝐝 c.in-Geocentric.is, not-𝐠 _ c.in_default-target.not-Geocentric) refl
+returns-in_err-t-in-Geocentric c =
+    let h = refused 𝐠 _ c.in_err-t-in-Geocentric.ensures c.from_residual.ensures.1 in
+    rw (h.0, is-𝐠 c.in-Geocentric.is, 𝐠-not-𝐝 c.in-Geocentric.is, h.1) refl
 
-pub returns-in_default-roll : goal.returns-in_default-roll
+pub returns-in_err-r-in-Geocentric : goal.returns-in_err-r-in-Geocentric
 unfolding table find hold
-returns-in_default-roll c = rw (is-𝐠 c.in-Geocentric.is, 𝐠-not-𝐝 c.in-Geocentric.is, is-𝐠 c.in-Geocentric-target.is, not-𝐚 _ c.in_default-roll.not-Radians) refl
+returns-in_err-r-in-Geocentric c =
+    let h = refused 𝐚 _ c.in_err-r-in-Geocentric.ensures c.from_residual-in_err-r-in-Geocentric.ensures.1 in
+    rw (h.0, is-𝐠 c.in-Geocentric.is, 𝐠-not-𝐝 c.in-Geocentric.is, taken 𝐠 _ c.in_ok-t-in-Geocentric.ensures, h.1) refl
 
-pub returns-in_default-target-2 : goal.returns-in_default-target-2
+pub returns-in_err-far_enough-in-Geocentric : goal.returns-in_err-far_enough-in-Geocentric
 unfolding table find hold
-returns-in_default-target-2 c = rw (𝐝-not-𝐠 c.in-Geodetic.is, is-𝐝 c.in-Geodetic.is, not-𝐝 _ c.in_default-target-2.not-Geodetic) refl
+returns-in_err-far_enough-in-Geocentric c =
+    let h = near-is c.args.e c.in-Geocentric.g c.in_err-far_enough-in-Geocentric.ensures c.from_residual-in_err-far_enough-in-Geocentric.ensures.1 in
+    rw (h.0, is-𝐠 c.in-Geocentric.is, 𝐠-not-𝐝 c.in-Geocentric.is, taken 𝐠 _ c.in_ok-t-in-Geocentric.ensures, taken 𝐚 _ c.in_ok-r-in-Geocentric.ensures, h.1) refl
 
-pub returns-in_default-roll-2 : goal.returns-in_default-roll-2
+pub returns-in_err-t-in-Geodetic : goal.returns-in_err-t-in-Geodetic
 unfolding table find hold
-returns-in_default-roll-2 c = rw (𝐝-not-𝐠 c.in-Geodetic.is, is-𝐝 c.in-Geodetic.is, is-𝐝 c.in-Geodetic-target.is, not-𝐚 _ c.in_default-roll-2.not-Radians) refl
+returns-in_err-t-in-Geodetic c =
+    let h = refused 𝐝 _ c.in_err-t-in-Geodetic.ensures c.from_residual-in_err-t-in-Geodetic.ensures.1 in
+    rw (h.0, 𝐝-not-𝐠 c.in-Geodetic.is, is-𝐝 c.in-Geodetic.is, h.1) refl
 
-pub returns-then-is_far : goal.returns-then-is_far
+pub returns-in_err-r-in-Geodetic : goal.returns-in_err-r-in-Geodetic
+unfolding table find hold
+returns-in_err-r-in-Geodetic c =
+    let h = refused 𝐚 _ c.in_err-r-in-Geodetic.ensures c.from_residual-in_err-r-in-Geodetic.ensures.1 in
+    rw (h.0, 𝐝-not-𝐠 c.in-Geodetic.is, is-𝐝 c.in-Geodetic.is, taken 𝐝 _ c.in_ok-t-in-Geodetic.ensures, h.1) refl
+
+pub returns-in_ok-far_enough-in-Geocentric : goal.returns-in_ok-far_enough-in-Geocentric
 unfolding table find hold looking_at_geocentric
-returns-then-is_far c = rw (c.gives_frame.ensures, is-𝐠 c.in-Geocentric.is, is-𝐠 c.in-Geocentric-target.is, is-𝐚 c.in-Radians.is, sym c.is_far.ensures ∙ c.if-is_far.true, c.looking_at.ensures) refl
+returns-in_ok-far_enough-in-Geocentric c = rw (is-𝐠 c.in-Geocentric.is, taken 𝐠 _ c.in_ok-t-in-Geocentric.ensures, taken 𝐚 _ c.in_ok-r-in-Geocentric.ensures, far-is c.args.e c.in-Geocentric.g c.in_ok-far_enough-in-Geocentric.ensures, c.looking_at.ensures) refl
 
-pub returns-else-is_far : goal.returns-else-is_far
-unfolding table find hold
-returns-else-is_far c = rw (is-𝐠 c.in-Geocentric.is, is-𝐠 c.in-Geocentric-target.is, is-𝐚 c.in-Radians.is, sym c.is_far.ensures ∙ c.if-is_far.false) refl
-
-pub returns-in-Radians-roll : goal.returns-in-Radians-roll
+pub returns-in_ok-r-in-Geodetic : goal.returns-in_ok-r-in-Geodetic
 unfolding table find hold looking_at_geodetic
-returns-in-Radians-roll c = rw (c.gives_frame-in-Geodetic.ensures, 𝐝-not-𝐠 c.in-Geodetic.is, is-𝐝 c.in-Geodetic.is, is-𝐝 c.in-Geodetic-target.is, is-𝐚 c.in-Radians-roll.is, c.looking_at-in-Geodetic.ensures) refl
+returns-in_ok-r-in-Geodetic c = rw (𝐝-not-𝐠 c.in-Geodetic.is, is-𝐝 c.in-Geodetic.is, taken 𝐝 _ c.in_ok-t-in-Geodetic.ensures, taken 𝐚 _ c.in_ok-r-in-Geodetic.ensures, c.looking_at-in-Geodetic.ensures) refl
 
 pub returns-in_default : goal.returns-in_default
 unfolding table find hold

@@ -1,35 +1,45 @@
 -- `sheets::rows::frame_rows::apply_move` meets its contract. Assumes nothing.
-use mathlib.Core.Path.{refl, sym, ◌∙◌}
-use Rattle.sheets.specs.Letters.{hold}
+use mathlib.Core.Path.{refl}
+use Rattle.sheets.specs.Letters.{hold, 𝐚, 𝐟, 𝐯}
 use Rattle.sheets.specs.Table.{table}
 use Rattle.sheets.specs.Lookup.{find}
-use Rattle.sheets.proofs.rows.HeldLaws.{is-𝐚, is-𝐟, is-𝐯, not-𝐚, not-𝐟, not-𝐯}
+use Rattle.sheets.proofs.rows.HeldLaws.{taken, refused, same, differs}
 use Rattle.sheets.proofs.rows.frame_rows.apply_move.Goals as goal
 
-pub returns-in_default : goal.returns-in_default
+pub returns-in_err-f : goal.returns-in_err-f
 unfolding table find hold
-returns-in_default c = rw (not-𝐟 _ c.in_default.not-Frame) refl
+returns-in_err-f c =
+    let h = refused 𝐟 _ c.in_err-f.ensures c.from_residual.ensures.1 in
+    rw (h.0, h.1) refl
 
-pub returns-in_default-vector : goal.returns-in_default-vector
+pub returns-in_err-v : goal.returns-in_err-v
 unfolding table find hold
-returns-in_default-vector c = rw (is-𝐟 c.in-Frame.is, not-𝐯 _ c.in_default-vector.not-Vector) refl
+returns-in_err-v c =
+    let h = refused 𝐯 _ c.in_err-v.ensures c.from_residual-in_err-v.ensures.1 in
+    rw (h.0, taken 𝐟 _ c.in_ok-f.ensures, h.1) refl
 
-pub returns-in_default-yaw : goal.returns-in_default-yaw
+pub returns-in_err-y : goal.returns-in_err-y
 unfolding table find hold
-returns-in_default-yaw c = rw (is-𝐟 c.in-Frame.is, is-𝐯 c.in-Vector.is, not-𝐚 _ c.in_default-yaw.not-Radians) refl
+returns-in_err-y c =
+    let h = refused 𝐚 _ c.in_err-y.ensures c.from_residual-in_err-y.ensures.1 in
+    rw (h.0, taken 𝐟 _ c.in_ok-f.ensures, taken 𝐯 _ c.in_ok-v.ensures, h.1) refl
 
-pub returns-in_default-pitch : goal.returns-in_default-pitch
+pub returns-in_err-p : goal.returns-in_err-p
 unfolding table find hold
-returns-in_default-pitch c = rw (is-𝐟 c.in-Frame.is, is-𝐯 c.in-Vector.is, is-𝐚 c.in-Radians.is, not-𝐚 _ c.in_default-pitch.not-Radians) refl
+returns-in_err-p c =
+    let h = refused 𝐚 _ c.in_err-p.ensures c.from_residual-in_err-p.ensures.1 in
+    rw (h.0, taken 𝐟 _ c.in_ok-f.ensures, taken 𝐯 _ c.in_ok-v.ensures, taken 𝐚 _ c.in_ok-y.ensures, h.1) refl
 
-pub returns-in_default-roll : goal.returns-in_default-roll
+pub returns-in_err-r : goal.returns-in_err-r
 unfolding table find hold
-returns-in_default-roll c = rw (is-𝐟 c.in-Frame.is, is-𝐯 c.in-Vector.is, is-𝐚 c.in-Radians.is, is-𝐚 c.in-Radians-pitch.is, not-𝐚 _ c.in_default-roll.not-Radians) refl
+returns-in_err-r c =
+    let h = refused 𝐚 _ c.in_err-r.ensures c.from_residual-in_err-r.ensures.1 in
+    rw (h.0, taken 𝐟 _ c.in_ok-f.ensures, taken 𝐯 _ c.in_ok-v.ensures, taken 𝐚 _ c.in_ok-y.ensures, taken 𝐚 _ c.in_ok-p.ensures, h.1) refl
 
-pub returns-then-same_orientation : goal.returns-then-same_orientation
+pub returns-then-ne : goal.returns-then-ne
 unfolding table find hold
-returns-then-same_orientation c = rw (c.gives_frame.ensures, is-𝐟 c.in-Frame.is, is-𝐯 c.in-Vector.is, is-𝐚 c.in-Radians.is, is-𝐚 c.in-Radians-pitch.is, is-𝐚 c.in-Radians-roll.is, sym c.same_orientation.ensures ∙ c.if-same_orientation.true, c.transform.ensures) refl
+returns-then-ne c = rw (taken 𝐟 _ c.in_ok-f.ensures, taken 𝐯 _ c.in_ok-v.ensures, taken 𝐚 _ c.in_ok-y.ensures, taken 𝐚 _ c.in_ok-p.ensures, taken 𝐚 _ c.in_ok-r.ensures, differs c.in_ok-f.f.orientation c.in_ok-v.v.orientation c.if-ne.ensures) refl
 
-pub returns-else-same_orientation : goal.returns-else-same_orientation
+pub returns : goal.returns
 unfolding table find hold
-returns-else-same_orientation c = rw (is-𝐟 c.in-Frame.is, is-𝐯 c.in-Vector.is, is-𝐚 c.in-Radians.is, is-𝐚 c.in-Radians-pitch.is, is-𝐚 c.in-Radians-roll.is, sym c.same_orientation.ensures ∙ c.if-same_orientation.false) refl
+returns c = rw (taken 𝐟 _ c.in_ok-f.ensures, taken 𝐯 _ c.in_ok-v.ensures, taken 𝐚 _ c.in_ok-y.ensures, taken 𝐚 _ c.in_ok-p.ensures, taken 𝐚 _ c.in_ok-r.ensures, same c.in_ok-f.f.orientation c.in_ok-v.v.orientation c.if-ne.ensures, c.transform.ensures) refl

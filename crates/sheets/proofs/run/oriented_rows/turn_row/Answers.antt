@@ -1,5 +1,6 @@
 -- `sheets::run::oriented_rows::turn_row` meets its contract. Assumes nothing.
 use mathlib.Core.List.{[], ◌∷◌}
+use Rattle.sheets.specs.declared.Value.TheVariants.{Frame}
 use Rattle.sheets.specs.Text.{ascii}
 use Rattle.sheets.specs.code.reader.Codes.{word_char, code_from, code_of}
 use Rattle.sheets.specs.Table.{table}
@@ -7,10 +8,10 @@ use Rattle.sheets.specs.Lookup.{kind_rows}
 use Rattle.sheets.proofs.run.LaidSteps.{row_laid, row-none, two_at}
 use Rattle.sheets.proofs.run.oriented_rows.turn_row.Goals as goal
 
-pub returns-then-code-eq-TURN : goal.returns-then-code-eq-TURN
+pub returns-then-b-eq-TURN : goal.returns-then-b-eq-TURN
 unfolding table word_char code_from
-returns-then-code-eq-TURN c = row_laid (ascii "turn") tt 6 tt _ _ _ _ _ _ _ (two_at _ _ _ _ c.frame_at-frame.ensures c.angle_at-angle.ensures) _ c.apply_turn.ensures _ _ c.laid.ensures c.if-code-eq-TURN.true
+returns-then-b-eq-TURN c = row_laid (ascii "turn") tt Frame _ _ _ _ _ _ _ (two_at _ _ _ _ c.frame_at-frame.ensures c.angle_at-angle.ensures) _ c.apply_turn.ensures _ _ c.laid.ensures c.if-b-eq-TURN.true
 
 pub returns : goal.returns
 unfolding kind_rows table word_char code_from
-returns c = row-none (6 ∷ 1 ∷ []) (code_of (ascii "turn") ∷ []) tt _ _ _ tt _ _ _ (tt, c.if-code-eq-TURN.false)
+returns c = row-none (6 ∷ 1 ∷ []) (code_of (ascii "turn") ∷ []) tt _ _ _ tt _ _ _ (tt, c.if-b-eq-TURN.false)

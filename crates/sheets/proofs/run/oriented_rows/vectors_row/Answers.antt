@@ -4,6 +4,7 @@ use mathlib.Core.Path.{refl}
 use mathlib.Core.Bool.{false, true}
 use mathlib.Core.List.{List, [], ◌∷◌}
 use lib.Dec.{eqb}
+use Rattle.sheets.specs.declared.Value.TheVariants.{Vector}
 use Rattle.sheets.specs.Text.{ascii}
 use Rattle.sheets.specs.Table.{table}
 use Rattle.sheets.specs.Lookup.{kind_rows}
@@ -19,7 +20,7 @@ arms = (code_of (ascii "add") ∷ code_of (ascii "sub") ∷ []) ∷ []
 
 pub returns-in-1521 : goal.returns-in-1521
 unfolding table word_char code_from
-returns-in-1521 c = row_by sum_word (λ x. eqb x (code_of (ascii "sub"))) 5 (false ∷ true ∷ []) ((refl, tt), ((refl, tt), tt)) (two_at _ _ _ _ c.vector_at-v.ensures c.vector_at-w.ensures) _ refl c.apply_sum.ensures c.laid.ensures c.in-1521.is
+returns-in-1521 c = row_by sum_word (λ x. eqb x (code_of (ascii "sub"))) (false ∷ true ∷ []) ((refl, tt), ((refl, tt), tt)) Vector (two_at _ _ _ _ c.vector_at-v.ensures c.vector_at-w.ensures) _ refl _ c.apply_sum.ensures c.laid.ensures c.in-1521.is
 
 pub returns-in_default : goal.returns-in_default
 unfolding kind_rows table word_char code_from

@@ -3,6 +3,7 @@ use Prim.Native.Nat.{ℕ}
 use mathlib.Core.Path.{refl}
 use mathlib.Core.List.{List, [], ◌∷◌}
 use Rattle.frames.specs.declared.Orientation.TheVariants.{Enu, Ned, Body, Wan}
+use Rattle.sheets.specs.declared.Value.TheVariants.{Geodetic, Vector}
 use Rattle.sheets.specs.Text.{ascii}
 use Rattle.sheets.specs.Table.{table}
 use Rattle.sheets.specs.Lookup.{kind_rows}
@@ -19,11 +20,11 @@ arms = (code_of (aer_word Enu) ∷ code_of (aer_word Ned) ∷ code_of (aer_word 
 
 pub returns-in-16873 : goal.returns-in-16873
 unfolding table word_char code_from
-returns-in-16873 c = row_laid (ascii "lla") tt 4 tt _ _ _ _ _ _ _ (three-at _ _ _ _ _ c.angle_at-azimuth.ensures c.angle_at-elevation.ensures c.length_at-range.ensures) _ c.apply_lla.ensures _ _ c.laid.ensures c.in-16873.is
+returns-in-16873 c = row_laid (ascii "lla") tt Geodetic _ _ _ _ _ _ _ (three-at _ _ _ _ _ c.angle_at-azimuth.ensures c.angle_at-elevation.ensures c.length_at-range.ensures) _ c.apply_lla.ensures _ _ c.laid.ensures c.in-16873.is
 
 pub returns-in-58037 : goal.returns-in-58037
 unfolding table word_char code_from orientation_in
-returns-in-58037 c = row_by aer_word orientation_in 5 (Enu ∷ Ned ∷ Wan ∷ Body ∷ []) ((refl, tt), ((refl, tt), ((refl, tt), ((refl, tt), tt)))) (three-at _ _ _ _ _ c.angle_at-azimuth.ensures c.angle_at-elevation.ensures c.length_at-range.ensures) _ c.orientation_in-o.ensures c.apply_aer.ensures c.laid-in-58037.ensures c.in-58037.is
+returns-in-58037 c = row_by aer_word orientation_in (Enu ∷ Ned ∷ Wan ∷ Body ∷ []) ((refl, tt), ((refl, tt), ((refl, tt), ((refl, tt), tt)))) Vector (three-at _ _ _ _ _ c.angle_at-azimuth.ensures c.angle_at-elevation.ensures c.length_at-range.ensures) _ c.orientation_in-o.ensures _ c.apply_aer.ensures c.laid-in-58037.ensures c.in-58037.is
 
 pub returns-in_default : goal.returns-in_default
 unfolding kind_rows table word_char code_from

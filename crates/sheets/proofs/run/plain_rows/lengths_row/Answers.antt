@@ -3,6 +3,7 @@ use Prim.Native.Nat.{ℕ}
 use mathlib.Core.Path.{refl}
 use mathlib.Core.List.{List, [], ◌∷◌}
 use Rattle.frames.specs.declared.Orientation.TheVariants.{Enu, Ned, Body, Wan}
+use Rattle.sheets.specs.declared.Value.TheVariants.{Geocentric, Vector}
 use Rattle.sheets.specs.Text.{ascii}
 use Rattle.sheets.specs.Table.{table}
 use Rattle.sheets.specs.Lookup.{kind_rows}
@@ -19,11 +20,11 @@ arms = (code_of (vector_word Enu) ∷ code_of (vector_word Ned) ∷ code_of (vec
 
 pub returns-in-9783 : goal.returns-in-9783
 unfolding table word_char code_from
-returns-in-9783 c = row_laid (ascii "geo") tt 3 tt _ _ _ _ _ _ _ (three-at _ _ _ _ _ c.length_at-x.ensures c.length_at-y.ensures c.length_at-z.ensures) _ c.apply_geo.ensures _ _ c.laid.ensures c.in-9783.is
+returns-in-9783 c = row_laid (ascii "geo") tt Geocentric _ _ _ _ _ _ _ (three-at _ _ _ _ _ c.length_at-x.ensures c.length_at-y.ensures c.length_at-z.ensures) _ c.apply_geo.ensures _ _ c.laid.ensures c.in-9783.is
 
 pub returns-in-1121750 : goal.returns-in-1121750
 unfolding table word_char code_from orientation_in
-returns-in-1121750 c = row_by vector_word orientation_in 5 (Enu ∷ Ned ∷ Wan ∷ Body ∷ []) ((refl, tt), ((refl, tt), ((refl, tt), ((refl, tt), tt)))) (three-at _ _ _ _ _ c.length_at-x.ensures c.length_at-y.ensures c.length_at-z.ensures) _ c.orientation_in-o.ensures c.apply_vector.ensures c.laid-in-1121750.ensures c.in-1121750.is
+returns-in-1121750 c = row_by vector_word orientation_in (Enu ∷ Ned ∷ Wan ∷ Body ∷ []) ((refl, tt), ((refl, tt), ((refl, tt), ((refl, tt), tt)))) Vector (three-at _ _ _ _ _ c.length_at-x.ensures c.length_at-y.ensures c.length_at-z.ensures) _ c.orientation_in-o.ensures _ c.apply_vector.ensures c.laid-in-1121750.ensures c.in-1121750.is
 
 pub returns-in_default : goal.returns-in_default
 unfolding kind_rows table word_char code_from

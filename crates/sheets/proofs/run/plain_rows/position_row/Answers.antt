@@ -4,6 +4,7 @@ use mathlib.Core.Path.{refl}
 use mathlib.Core.Bool.{false, true}
 use mathlib.Core.List.{List, [], ◌∷◌}
 use lib.Dec.{eqb}
+use Rattle.sheets.specs.declared.Value.TheVariants.{Frame, Geocentric, Geodetic}
 use Rattle.sheets.specs.Text.{ascii}
 use Rattle.sheets.specs.Table.{table}
 use Rattle.sheets.specs.Lookup.{kind_rows}
@@ -19,15 +20,15 @@ arms = (code_of (ascii "enu") ∷ code_of (ascii "ned") ∷ []) ∷ (code_of (as
 
 pub returns-in-38252798 : goal.returns-in-38252798
 unfolding table word_char code_from
-returns-in-38252798 c = row_laid (ascii "togeo") tt 3 tt _ _ _ _ _ _ _ (one_at _ _ _ c.value_at-position.ensures) _ c.apply_togeo.ensures _ _ c.laid.ensures c.in-38252798.is
+returns-in-38252798 c = row_laid (ascii "togeo") tt Geocentric _ _ _ _ _ _ _ (one_at _ _ _ c.value_at-position.ensures) _ c.apply_togeo.ensures _ _ c.laid.ensures c.in-38252798.is
 
 pub returns-in-38259888 : goal.returns-in-38259888
 unfolding table word_char code_from
-returns-in-38259888 c = row_laid (ascii "tolla") tt 4 tt _ _ _ _ _ _ _ (one_at _ _ _ c.value_at-position.ensures) _ c.apply_tolla.ensures _ _ c.laid-in-38259888.ensures c.in-38259888.is
+returns-in-38259888 c = row_laid (ascii "tolla") tt Geodetic _ _ _ _ _ _ _ (one_at _ _ _ c.value_at-position.ensures) _ c.apply_tolla.ensures _ _ c.laid-in-38259888.ensures c.in-38259888.is
 
 pub returns-in-7384 : goal.returns-in-7384
 unfolding table word_char code_from
-returns-in-7384 c = row_by level_word (λ x. eqb x (code_of (ascii "ned"))) 6 (false ∷ true ∷ []) ((refl, tt), ((refl, tt), tt)) (one_at _ _ _ c.value_at-position.ensures) _ refl c.apply_level.ensures c.laid-in-7384.ensures c.in-7384.is
+returns-in-7384 c = row_by level_word (λ x. eqb x (code_of (ascii "ned"))) (false ∷ true ∷ []) ((refl, tt), ((refl, tt), tt)) Frame (one_at _ _ _ c.value_at-position.ensures) _ refl _ c.apply_level.ensures c.laid-in-7384.ensures c.in-7384.is
 
 pub returns-in_default : goal.returns-in_default
 unfolding kind_rows table word_char code_from

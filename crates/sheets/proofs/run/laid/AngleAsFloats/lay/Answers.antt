@@ -1,0 +1,7 @@
+-- `sheets::run::laid::AngleAsFloats::lay` meets its contract. Assumes nothing.
+use mathlib.Core.Path.{refl}
+use Rattle.sheets.proofs.run.FloatLaws.{kept_set, lies-angle}
+use Rattle.sheets.proofs.run.laid.AngleAsFloats.lay.Goals as goal
+
+pub returns : goal.returns
+returns c = record { code = refl; lies = λ lf. lies-angle c.args.floats.now lf _ c.requires _; kept = kept_set c.args.floats.now _ _ }

@@ -1,0 +1,15 @@
+// A bracket that is to be applied: what each row over floats is given beside the floats themselves.
+ghost use Rattle.std.specs.Prelude.{◌+◌, ◌≤◌};
+
+use frames::Ellipsoid;
+
+// The sheet's ellipsoid, the code of the bracket's word, where its first argument lies among the floats, and the place in the sheet after it.
+#[derive(Clone, Copy)]
+pub struct Bracket {
+    pub e: Ellipsoid,
+    pub code: u64,
+    pub top: usize,
+    pub end: usize,
+    // Five arguments have room, each as long as a frame.
+    ghost room: { top + 105 ≤ 2940 },
+}
