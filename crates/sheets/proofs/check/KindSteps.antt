@@ -1,7 +1,7 @@
 -- The kind of an expression, a step at a time: a law for each way out of `kind_at` and `gather`. Assumes nothing.
 use Prim.Native.Nat.{ℕ, zero, suc, ◌+◌, ◌-◌, ◌*◌, ◌^◌, ◌<◌, ◌≤◌}
 use native.Mathlib.Omega.{arith}
-use mathlib.Core.Path.{◌≡◌, refl, sym, ap, ◌∙◌}
+use mathlib.Core.Path.{◌≡◌, refl, sym, ap, ◌∙◌, subst}
 use mathlib.Core.List.{List, ◌∷◌}
 use mathlib.Core.Option.{Option as Maybe, none, some}
 use lib.ListN.{get_or}
@@ -21,7 +21,7 @@ use Rattle.sheets.specs.Check.{kind_of_expr, kinds_of_exprs}
 use Rattle.sheets.specs.declared.reader.num.Numeral.{Numeral}
 use Rattle.sheets.proofs.reader.ReaderLaws.{then-got, close-read}
 use Rattle.sheets.proofs.reader.TokenSteps.{grow, cap}
-use Rattle.sheets.proofs.reader.ExprSteps.{not-close, args_none, args-other, args-step, expr-step, expr-bad, name-read, num-read}
+use Rattle.sheets.proofs.reader.ExprSteps.{args_none, args-other, args-step, expr-step, expr-bad, name-read, num-read}
 use Rattle.sheets.proofs.reader.Viewed.{coded-got}
 use Rattle.sheets.proofs.reader.Inverse.{not-read, arg-read, form-read}
 use Rattle.sheets.proofs.reader.Spans.{holds_at}
@@ -205,8 +205,8 @@ module _ (s : List ℕ) (at b : ℕ) (eb : b ≡ get_or s at 0) (depth left key 
     read = λ k n e. let i : at + 1 ≡ n = (same-told e).1 in (nil, close-read (read_expr depth s) s at b eb left h ∙ ap (got nil) i);
   }
 
-  pub have-sixth : (why : Code) → b ≡ 32 → left ≡ 0 → ArgsHave s at depth left key ps (Err why)
-  have-sixth why h l = have-none s at depth left key ps why (args_none (read_expr depth s) s at b eb left (not-close b h) l)
+  pub have-sixth : (why : Code) → (b ≡ 41 → ⊥) → left ≡ 0 → ArgsHave s at depth left key ps (Err why)
+  have-sixth why h l = have-none s at depth left key ps why (args_none (read_expr depth s) s at b eb left h l)
 
   pub have-other : (why : Code) → (b ≡ 32 → ⊥) → (b ≡ 41 → ⊥) → ArgsHave s at depth left key ps (Err why)
   have-other why h c = have-none s at depth left key ps why (args-other (read_expr depth s) s at b eb left c h)
@@ -258,8 +258,22 @@ module _ (s : List ℕ) (at b : ℕ) (eb : b ≡ get_or s at 0) (depth left key 
         go (bad f) m ys n ey e = let z : ◌≡◌ {A = ℕ} 0 1 = cc in absurd (omega arith)
 
 -- the key of at most five kinds stays small
-pub key-grows : (left key k : ℕ) → (left ≡ 0 → ⊥) → left ≤ 5 → key < 512 ^ (5 - left) → k ≤ 255 → (key * 16 + k + 1 < 512 ^ (5 - (left - 1))) × (key * 16 + k + 1 < 512 ^ 5)
+key-grows : (left key k : ℕ) → (left ≡ 0 → ⊥) → left ≤ 5 → key < 512 ^ (5 - left) → k ≤ 255 → (key * 16 + k + 1 < 512 ^ (5 - (left - 1))) × (key * 16 + k + 1 < 512 ^ 5)
 key-grows left key k l le h hk =
     let g = grow 512 5 left key 256 (omega arith) le h (omega arith) in
     let m = cap 512 5 (left - 1) (omega arith) in
     (omega arith, omega arith)
+
+-- the same by how many kinds there are
+pub grown : (n key k : ℕ) → n < 5 → key < 512 ^ n → k ≤ 255 → (key * 16 + k + 1 < 512 ^ (n + 1)) × (key * 16 + k + 1 < 512 ^ 5)
+grown n key k l h hk =
+    let e : 5 - (5 - n) ≡ n = omega arith in
+    let d : 5 - (5 - n - 1) ≡ n + 1 = omega arith in
+    let g = key-grows (5 - n) key k (omega arith) (omega arith) (subst (λ m. key < 512 ^ m) (sym e) h) hk in
+    (subst (λ m. key * 16 + k + 1 < 512 ^ m) d g.0, g.1)
+
+-- one argument fewer is left
+pub left-one : (n : ℕ) → n < 5 → (s : List ℕ) (at depth key : ℕ) (ps : Known Kind) (q : Result (ℕ × ℕ) Code) → ArgsHave s at depth (5 - (n + 1)) key ps q → ArgsHave s at depth (5 - n - 1) key ps q
+left-one n l s at depth key ps q h =
+    let e : 5 - (n + 1) ≡ 5 - n - 1 = omega arith in
+    subst (λ m. ArgsHave s at depth m key ps q) e h

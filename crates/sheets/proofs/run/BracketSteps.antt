@@ -1,6 +1,6 @@
 -- A bracket, a step at a time. Assumes nothing.
 use Rattle.std.specs.Prelude.{Option, Some, None}
-use Prim.Native.Nat.{ℕ, suc, ◌+◌, ◌-◌, ◌*◌}
+use Prim.Native.Nat.{ℕ, suc, ◌+◌, ◌-◌, ◌*◌, ◌<◌}
 use native.Mathlib.Omega.{arith}
 use mathlib.Core.Path.{◌≡◌, refl, sym, ap, subst, ◌∙◌}
 use mathlib.Core.List.{List, [], ◌∷◌, ◌++◌, append-nil, append_assoc}
@@ -27,7 +27,7 @@ use Rattle.sheets.specs.code.run.Known.{Ready}
 use Rattle.sheets.specs.declared.check.names.Names.{Names}
 use Rattle.sheets.specs.code.run.Evaluating.{evaluated, LiesOf, Answers, ForKinds, EvalsWith, BracketWith}
 use Rattle.sheets.proofs.reader.ReaderLaws.{close-read}
-use Rattle.sheets.proofs.reader.ExprSteps.{not-close, args_none, args-other}
+use Rattle.sheets.proofs.reader.ExprSteps.{args_none, args-other}
 use Rattle.sheets.proofs.reader.Inverse.{not-read, arg-read, form-read}
 use Rattle.sheets.proofs.run.FloatLaws.{kept_refl, kept_trans, values-kept, values-append}
 use Rattle.sheets.proofs.run.ListedLaws.{ready-kept, ready-above}
@@ -80,8 +80,8 @@ module _ (s : List ℕ) (at b : ℕ) (eb : b ≡ get_or s at 0) (depth left : �
   bracket-bad : (r : Evaluated) (g : List Float) → None ≡ place (read_args (read_expr depth s) left s at) → BracketWith s at depth left e code names key f top r g
   bracket-bad r g h = record { is = λ ps rd ks ek el w iw ec. record { is = λ es n k. not-read (read_args (read_expr depth s) left s at) es n h k } }
 
-  pub bracket-sixth : b ≡ 32 → left ≡ 0 → (r : Evaluated) (g : List Float) → BracketWith s at depth left e code names key f top r g
-  bracket-sixth h l r g = bracket-bad r g (args_none (read_expr depth s) s at b eb left (not-close b h) l)
+  pub bracket-sixth : (b ≡ 41 → ⊥) → left ≡ 0 → (r : Evaluated) (g : List Float) → BracketWith s at depth left e code names key f top r g
+  bracket-sixth h l r g = bracket-bad r g (args_none (read_expr depth s) s at b eb left h l)
 
   pub bracket-other : (b ≡ 32 → ⊥) → (b ≡ 41 → ⊥) → (r : Evaluated) (g : List Float) → BracketWith s at depth left e code names key f top r g
   bracket-other h c r g = bracket-bad r g (args-other (read_expr depth s) s at b eb left c h)
@@ -188,3 +188,10 @@ module _ (s : List ℕ) (at b : ℕ) (eb : b ≡ get_or s at 0) (depth left : �
           record { is = b3.is; lies = b3.lies; kept = kept_trans f g g' top top (kept_trans f f g top room (kept_refl f top) a.kept (omega (arith, er))) b3.kept (omega arith) }
       go ps rd ks ek el w iw ec m xs n ef (stops hs c) a p = let z : ◌≡◌ {A = ℕ} 0 1 = cc in absurd (omega arith)
       go ps rd ks ek el w iw ec m xs n ef (sticks hs) a p = let z : ◌≡◌ {A = ℕ} 0 1 = cc in absurd (omega arith)
+
+-- one argument fewer is left
+pub one-fewer : (n : ℕ) → n < 5 → (s : List ℕ) (at depth : ℕ) (e : Ellipsoid) (code : ℕ) (names : Names) (key : ℕ) (f : List Float) (top : ℕ) (q : Evaluated) (g : List Float)
+    → BracketWith s at depth (5 - (n + 1)) e code names key f top q g → BracketWith s at depth (5 - n - 1) e code names key f top q g
+one-fewer n l s at depth e code names key f top q g h =
+    let i : 5 - (n + 1) ≡ 5 - n - 1 = omega arith in
+    subst (λ m. BracketWith s at depth m e code names key f top q g) i h

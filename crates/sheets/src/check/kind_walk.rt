@@ -55,20 +55,16 @@ fn gather(s: &[u8], at: usize, depth: usize, names: &Names) -> Result<(u64, usiz
     ensures { ForKnown names.now (λ ps. ArgsHave s.now at depth 5 0 ps result) }
 {
     let mut i = at;
-    let mut left: usize = 5;
     let mut key: u64 = 0;
-    let mut b = byte(s, at);
-    while b == 32 {
-        if left == 0 {
-            return Err(Refusal::Form);
+    for _ in 0..5usize {
+        if byte(s, i) != 32 {
+            break;
         }
         let (kind, end) = kind_at(s, i + 1, depth, names)?;
         key = key * 16 + kind as u64 + 1;
         i = end;
-        left -= 1;
-        b = byte(s, i);
     }
-    if b == 41 {
+    if byte(s, i) == 41 {
         return Ok((key, i + 1));
     }
     Err(Refusal::Form)

@@ -97,14 +97,12 @@ pub fn bracket(
     ensures { BracketWith s.now at depth 5 e code names.now 0 floats.old top result floats.new }
 {
     let mut i = at;
-    let mut left: usize = 5;
     let mut key: u64 = 0;
-    let mut b = byte(s, at);
-    while b == 32 {
-        if left == 0 {
-            return Evaluated::Sticks;
+    for n in 0..5usize {
+        if byte(s, i) != 32 {
+            break;
         }
-        let room = top + 21 * (5 - left);
+        let room = top + 21 * n;
         let r = eval(s, i + 1, depth, e, names, floats, room);
         match r {
             Evaluated::Sticks => {
@@ -116,12 +114,10 @@ pub fn bracket(
             Evaluated::Is(kind, end) => {
                 key = key * 16 + kind as u64 + 1;
                 i = end;
-                left -= 1;
-                b = byte(s, i);
             }
         }
     }
-    if b == 41 {
+    if byte(s, i) == 41 {
         return apply(e, code, key, floats, top, i + 1);
     }
     Evaluated::Sticks

@@ -75,6 +75,7 @@ pub fn run_lines(s: &[u8], from: usize, e: Ellipsoid, readings: &[f64], out: &mu
     let mut line: usize = 1;
     let mut n: usize = 0;
     let mut written: usize = 0;
+    // No `for`: where the next line stands is known only when its line is read.
     while line < 96 && at < s.len() {
         line += 1;
         match line_head(s, at) {

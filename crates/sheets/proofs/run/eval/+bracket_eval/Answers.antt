@@ -1,11 +1,12 @@
 -- `sheets::run::eval::bracket` and `sheets::run::eval::eval`, which call each other, meet their contracts. Assumes nothing.
 use native.Mathlib.Omega.{arith}
-use mathlib.Core.Path.{refl}
+use mathlib.Core.Path.{refl, sym, ◌∙◌}
 use Rattle.sheets.proofs.reader.ExprSteps.{expr-deep, expr-no-word}
-use Rattle.sheets.proofs.check.KindSteps.{key-grows}
+use Rattle.sheets.proofs.check.KindSteps.{grown}
 use Rattle.sheets.proofs.run.EvalSteps.{evals-bad, evals-leaf}
-use Rattle.sheets.proofs.run.BracketSteps.{evals-form, bracket-closed, bracket-sixth, bracket-other, bracket-stopped, bracket-stuck, bracket-more}
+use Rattle.sheets.proofs.run.BracketSteps.{evals-form, bracket-closed, bracket-sixth, bracket-other, bracket-stopped, bracket-stuck, bracket-more, one-fewer}
 use Rattle.sheets.proofs.run.eval.+bracket_eval.Goals as goal
+use Rattle.sheets.proofs.run.eval.+bracket_eval.Goals.{bracket-else-loop-n-test, bracket-then-loop-n-test+then-byte-ne32}
 
 pub eval-returns-then-depth-eq0 : goal.eval-returns-then-depth-eq0
 eval-returns-then-depth-eq0 t c = evals-bad _ _ _ _ _ _ _ _ _ (expr-deep _ _ _ c.byte-b.ensures.is _ c.if-b-eq40.true c.if-depth-eq0.true)
@@ -31,68 +32,54 @@ eval-leaf-requires t c = omega (arith, c.requires)
 pub eval-returns : goal.eval-returns
 eval-returns t c = evals-leaf _ _ _ _ _ _ _ _ _ _ c.byte-b.ensures.is c.if-b-eq40.false c.leaf.ensures
 
-pub bracket-loop-b-init : goal.bracket-loop-b-init
-bracket-loop-b-init t c = (c.byte-b.ensures, omega arith, omega arith, λ q g h. h)
-
-pub bracket-returns-then-left-eq0 : goal.bracket-returns-then-left-eq0
-bracket-returns-then-left-eq0 t c = c.loop-b.invariant.3 _ _ (bracket-sixth _ _ _ c.loop-b.invariant.0.is _ _ _ _ _ _ _ _ c.loop-b-test.true c.if-left-eq0.true _ _)
-
-pub bracket-overflow_sub-room : goal.bracket-overflow_sub-room
-bracket-overflow_sub-room t c = omega arith
+pub bracket-loop-n-init : goal.bracket-loop-n-init
+bracket-loop-n-init t c = (omega arith, omega arith, λ q g h. h)
 
 pub bracket-overflow_mul-room : goal.bracket-overflow_mul-room
-bracket-overflow_mul-room t c = omega arith
+bracket-overflow_mul-room t c = omega (arith, c.loop-n-test.true)
 
 pub bracket-overflow_add-room : goal.bracket-overflow_add-room
-bracket-overflow_add-room t c = omega (arith, c.requires, c.loop-b.invariant.1)
+bracket-overflow_add-room t c = omega (arith, c.requires, c.loop-n-test.true)
 
 pub bracket-overflow_add-i : goal.bracket-overflow_add-i
-bracket-overflow_add-i t c = omega (arith, c.loop-b.invariant.0.inside)
+bracket-overflow_add-i t c = omega (arith, c.byte.ensures.inside, c.if-byte-ne32.false)
 
 pub bracket-eval-r-requires : goal.bracket-eval-r-requires
-bracket-eval-r-requires t c = (omega arith, omega (arith, c.requires, c.loop-b.invariant.1, c.if-left-eq0.false))
+bracket-eval-r-requires t c = (omega arith, omega (arith, c.requires, c.loop-n-test.true))
 
 pub bracket-returns-in-Sticks : goal.bracket-returns-in-Sticks
-bracket-returns-in-Sticks t c = c.loop-b.invariant.3 _ _ (bracket-stuck _ _ _ c.loop-b.invariant.0.is _ _ _ _ _ _ _ _ c.loop-b-test.true c.if-left-eq0.false _ refl _ _ c.eval-r.ensures c.in-Sticks.is)
+bracket-returns-in-Sticks t c = c.loop-n.invariant.2 _ _ (bracket-stuck _ _ _ c.byte.ensures.is _ _ _ _ _ _ _ _ c.if-byte-ne32.false (omega (arith, c.loop-n-test.true)) _ (omega (arith, c.loop-n-test.true)) _ _ c.eval-r.ensures c.in-Sticks.is)
 
 pub bracket-returns-in-Stops : goal.bracket-returns-in-Stops
-bracket-returns-in-Stops t c = c.loop-b.invariant.3 _ _ (bracket-stopped _ _ _ c.loop-b.invariant.0.is _ _ _ _ _ _ _ _ c.loop-b-test.true c.if-left-eq0.false _ refl _ _ c.eval-r.ensures _ c.in-Stops.is)
+bracket-returns-in-Stops t c = c.loop-n.invariant.2 _ _ (bracket-stopped _ _ _ c.byte.ensures.is _ _ _ _ _ _ _ _ c.if-byte-ne32.false (omega (arith, c.loop-n-test.true)) _ (omega (arith, c.loop-n-test.true)) _ _ c.eval-r.ensures _ c.in-Stops.is)
 
 pub bracket-overflow_mul-key : goal.bracket-overflow_mul-key
-bracket-overflow_mul-key t c = omega (arith, key-grows _ _ c.in-Is.kind c.if-left-eq0.false c.loop-b.invariant.1 c.loop-b.invariant.2 (omega arith))
-
-pub bracket-overflow_cast-key : goal.bracket-overflow_cast-key
-bracket-overflow_cast-key t c = omega arith
+bracket-overflow_mul-key t c = omega (arith, grown _ _ c.in-Is.kind c.loop-n-test.true c.loop-n.invariant.1 (omega arith))
 
 pub bracket-overflow_add-key : goal.bracket-overflow_add-key
-bracket-overflow_add-key t c = omega (arith, key-grows _ _ c.in-Is.kind c.if-left-eq0.false c.loop-b.invariant.1 c.loop-b.invariant.2 (omega arith))
+bracket-overflow_add-key t c = omega (arith, grown _ _ c.in-Is.kind c.loop-n-test.true c.loop-n.invariant.1 (omega arith))
 
 pub bracket-overflow_add-key-in-Is : goal.bracket-overflow_add-key-in-Is
-bracket-overflow_add-key-in-Is t c = omega (arith, key-grows _ _ c.in-Is.kind c.if-left-eq0.false c.loop-b.invariant.1 c.loop-b.invariant.2 (omega arith))
+bracket-overflow_add-key-in-Is t c = omega (arith, grown _ _ c.in-Is.kind c.loop-n-test.true c.loop-n.invariant.1 (omega arith))
 
-pub bracket-overflow_sub-left : goal.bracket-overflow_sub-left
-bracket-overflow_sub-left t c = omega arith
+pub bracket-loop-n-preserved : goal.bracket-loop-n-preserved
+bracket-loop-n-preserved t c = (
+  omega (arith, c.loop-n-test.true),
+  (grown _ _ c.in-Is.kind c.loop-n-test.true c.loop-n.invariant.1 (omega arith)).0,
+  λ q g h. c.loop-n.invariant.2 q g (bracket-more _ _ _ c.byte.ensures.is _ _ _ _ _ _ _ _ c.if-byte-ne32.false (omega (arith, c.loop-n-test.true)) _ (omega (arith, c.loop-n-test.true)) _ _ c.eval-r.ensures _ _ c.in-Is.is _ refl q g (one-fewer _ c.loop-n-test.true _ _ _ _ _ _ _ _ _ _ _ h)),
+)
 
-pub bracket-loop-b-smaller : goal.bracket-loop-b-smaller
-bracket-loop-b-smaller t c = omega (arith, c.if-left-eq0.false)
-
-pub bracket-loop-b-preserved : goal.bracket-loop-b-preserved
-bracket-loop-b-preserved t c =
-    let k = key-grows _ _ c.in-Is.kind c.if-left-eq0.false c.loop-b.invariant.1 c.loop-b.invariant.2 (omega arith) in (
-      c.byte-b-in-Is.ensures,
-      omega (arith, c.loop-b.invariant.1),
-      k.0,
-      λ q g h. c.loop-b.invariant.3 q g (bracket-more _ _ _ c.loop-b.invariant.0.is _ _ _ _ _ _ _ _ c.loop-b-test.true c.if-left-eq0.false _ refl _ _ c.eval-r.ensures _ _ c.in-Is.is _ refl q g h),
-    )
-
-pub bracket-overflow_add-i-then-b-eq41 : goal.bracket-overflow_add-i-then-b-eq41
-bracket-overflow_add-i-then-b-eq41 t c = omega (arith, c.loop-b.invariant.0.inside)
+pub bracket-overflow_add-i-then-byte-eq41 : goal.bracket-overflow_add-i-then-byte-eq41
+bracket-overflow_add-i-then-byte-eq41 t c = omega (arith, c.byte-2.ensures.inside, c.if-byte-eq41.true)
 
 pub bracket-apply-requires : goal.bracket-apply-requires
 bracket-apply-requires t c = omega (arith, c.requires)
 
-pub bracket-returns-then-b-eq41 : goal.bracket-returns-then-b-eq41
-bracket-returns-then-b-eq41 t c = c.loop-b.invariant.3 _ _ (bracket-closed _ _ _ c.loop-b.invariant.0.is _ _ _ _ _ _ _ _ c.if-b-eq41.true _ _ c.apply.ensures)
+pub bracket-returns-then-byte-eq41 : goal.bracket-returns-then-byte-eq41
+bracket-returns-then-byte-eq41 t c = c.loop-n.invariant.2 _ _ (bracket-closed _ _ _ c.byte-2.ensures.is _ _ _ _ _ _ _ _ c.if-byte-eq41.true _ _ c.apply.ensures)
 
 pub bracket-returns : goal.bracket-returns
-bracket-returns t c = c.loop-b.invariant.3 _ _ (bracket-other _ _ _ c.loop-b.invariant.0.is _ _ _ _ _ _ _ _ c.loop-b-test.false c.if-b-eq41.false _ _)
+bracket-returns t c = elim c.loop-n-test.branch [
+  | bracket-else-loop-n-test w ↦ c.loop-n.invariant.2 _ _ (bracket-sixth _ _ _ c.byte-2.ensures.is _ _ _ _ _ _ _ _ c.if-byte-eq41.false (omega (arith, w.loop-n-test.false)) _ _)
+  | bracket-then-loop-n-test+then-byte-ne32 w ↦ c.loop-n.invariant.2 _ _ (bracket-other _ _ _ c.byte-2.ensures.is _ _ _ _ _ _ _ _ (λ e. w.if-byte-ne32.true (w.byte.ensures.is ∙ sym c.byte-2.ensures.is ∙ e)) c.if-byte-eq41.false _ _)
+]

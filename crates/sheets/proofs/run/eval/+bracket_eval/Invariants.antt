@@ -1,7 +1,6 @@
 -- What goes down from call to call of `sheets::run::eval::bracket` and `sheets::run::eval::eval`, and the loop of the first.
 use Rattle.std.proofs.Common.{◌+◌, ◌-◌, ◌*◌, ◌^◌, ◌<◌, ◌≤◌, List}
 use lib.Ieee.{Float}
-use Rattle.sheets.specs.code.reader.Views.{ByteAt}
 use Rattle.sheets.specs.code.run.Evaluating.{BracketWith}
 use Rattle.sheets.specs.declared.Evaluated.{Evaluated}
 use Rattle.sheets.proofs.run.eval.+bracket_eval.Given as goal
@@ -12,9 +11,6 @@ decreases-eval l = l.depth * 2
 abbrev pub decreases-bracket : goal.decreases-bracket
 decreases-bracket l = l.depth * 2 + 1
 
-abbrev pub invariant-bracket-loop-b : goal.invariant-bracket-loop-b
-invariant-bracket-loop-b l =
-    ByteAt l.s l.i l.b × (l.left ≤ 5) × (l.key < 512 ^ (5 - l.left)) × ((q : Evaluated) (g : List Float) → BracketWith l.s l.i l.depth l.left l.e l.code l.names l.key l.floats l.top q g → BracketWith l.s l.at l.depth 5 l.e l.code l.names 0 l.initial.floats l.top q g)
-
-abbrev pub decreases-bracket-loop-b : goal.decreases-bracket-loop-b
-decreases-bracket-loop-b l = l.left
+abbrev pub invariant-bracket-loop-n : goal.invariant-bracket-loop-n
+invariant-bracket-loop-n l =
+    (l.n ≤ 5) × (l.key < 512 ^ l.n) × ((q : Evaluated) (g : List Float) → BracketWith l.s l.i l.depth (5 - l.n) l.e l.code l.names l.key l.floats l.top q g → BracketWith l.s l.at l.depth 5 l.e l.code l.names 0 l.initial.floats l.top q g)
