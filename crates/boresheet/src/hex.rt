@@ -25,7 +25,9 @@ pub fn hex(s: &[u8], at: usize) -> Option<(f64, usize)>
 {
     let mut bits: u64 = 0;
     for i in 0..16 {
-        let d = hex_digit(byte(s, at + i))?;
+        let Some(d) = hex_digit(byte(s, at + i)) else {
+            return None;
+        };
         bits = bits * 16 + d;
     }
     let x = double(bits);

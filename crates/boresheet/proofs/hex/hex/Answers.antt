@@ -3,8 +3,8 @@ use native.Mathlib.Omega.{arith}
 use native.Mathlib.Numerals.{add-one}
 use native.Mathlib.Nat.{pow-suc, pow-le-pow_right}
 use Prim.Native.Nat.{ℕ, ◌+◌, ◌-◌, ◌*◌, ◌^◌, ◌<◌, ◌≤◌}
+use Rattle.std.proofs.Common.{Some}
 use mathlib.Core.Path.{◌≡◌, ap, ap₂, ◌∙◌}
-use Rattle.std.specs.Prelude.{Some}
 use Rattle.boresheet.specs.code.Readings.{hex_from, hex_at}
 use Rattle.boresheet.proofs.ReadingSteps.{hex-stop, hex-turn, hex-end}
 use Rattle.boresheet.proofs.hex.hex.Goals as goal
