@@ -38,15 +38,14 @@ impl Names {
     pub fn place(&self, code: u64) -> Option<usize>
         ensures { result ≡ place_found self.now code }
     {
-        let mut i = self.newest_of(code);
-        if 95 < i {
+        let newest = self.newest_of(code);
+        if 95 < newest {
             return None;
         }
-        while 0 < i {
+        for i in (1..=newest).rev() {
             if self.words[i] == code {
                 return Some(i);
             }
-            i -= 1;
         }
         None
     }

@@ -1,4 +1,4 @@
--- The search for a word among those given, the newest first. `words` lists their codes, each at its place, counted from 1.
+-- The search for a word among those given, the newest first. `words` of `Names` has their codes, each at its place, counted from 1.
 -- No part of what must be believed: the newest place for each remainder of the words' codes by 512 only spares the search places at which the word cannot stand.
 use Rattle.std.specs.Prelude.{ℕ, zero, suc, ◌%◌, ◌<◌, ◌≤◌, ◌≡◌, List, Option, Some, None, eqb, leb, length, get_or, set, replicate}
 use Rattle.sheets.specs.Table.{when}
