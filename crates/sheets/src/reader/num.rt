@@ -30,26 +30,20 @@ fn digits(s: &[u8], at: usize, most: usize, before: u64) -> DigitsRead
     ensures { result ≡ digits_read before (chars digit most s.now at) at }
 {
     let mut value = before;
-    let mut count: usize = 0;
-    let mut i = at;
-    let mut left = most;
-    while 0 < left {
-        let Some(d) = digit(byte(s, i)) else {
+    for count in 0..most {
+        let Some(d) = digit(byte(s, at + count)) else {
             return DigitsRead {
                 value,
                 count,
-                end: i,
+                end: at + count,
             };
         };
         value = value * 10 + d;
-        count += 1;
-        i += 1;
-        left -= 1;
     }
     DigitsRead {
         value,
-        count,
-        end: i,
+        count: most,
+        end: at + most,
     }
 }
 

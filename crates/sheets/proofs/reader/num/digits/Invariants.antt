@@ -7,8 +7,5 @@ use Rattle.sheets.specs.code.reader.Views.{digits_read}
 use Rattle.sheets.proofs.reader.TokenSteps.{digits_of}
 use Rattle.sheets.proofs.reader.num.digits.Given as goal
 
-abbrev pub invariant-loop-left : goal.invariant-loop-left
-invariant-loop-left l = (l.left + l.count ≡ l.most) × (l.value < 10 ^ (18 - l.left)) × (digits_of l.value l.count (chars digit l.left l.s l.i) l.i ≡ digits_read l.before (chars digit l.most l.s l.at) l.at)
-
-abbrev pub decreases-loop-left : goal.decreases-loop-left
-decreases-loop-left l = l.left
+abbrev pub invariant-loop-count : goal.invariant-loop-count
+invariant-loop-count l = (l.at + l.count < 2 ^ 64) × (l.value < 10 ^ (18 - (l.most - l.count))) × (digits_of l.value l.count (chars digit (l.most - l.count) l.s (l.at + l.count)) (l.at + l.count) ≡ digits_read l.before (chars digit l.most l.s l.at) l.at)
