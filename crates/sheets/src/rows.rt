@@ -120,7 +120,7 @@ pub fn apply_neg(e: Ellipsoid, vector: Value) -> Result<LocalVector, Unapplied>
     Ok(-v)
 }
 
-// add where `minus` is false, sub where it is true.
+// add where `minus` is false, sub where it is true: two functions, or one that is handed the operator, would say the operands' tests and the clause twice.
 pub fn apply_sum(e: Ellipsoid, minus: bool, v: Value, w: Value) -> Result<LocalVector, Unapplied>
     ensures { RowGives Vector e (sum_word minus) (v ∷ w ∷ []) result }
 {

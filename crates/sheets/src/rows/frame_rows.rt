@@ -26,7 +26,7 @@ pub fn apply_tolla(e: Ellipsoid, position: Value) -> Result<GeodeticPosition, Un
     Ok(e.geocentric_to_geodetic_position(g))
 }
 
-// enu where `ned` is false, ned where it is true.
+// enu where `ned` is false, ned where it is true. A constructor cannot be handed in as a closure, which is not generic over the two forms of a position; nor can it in the three functions below.
 pub fn apply_level(e: Ellipsoid, ned: bool, position: Value) -> Result<LocalFrame, Unapplied>
     ensures { RowGives Frame e (level_word ned) (position ∷ []) result }
 {
