@@ -5,8 +5,8 @@ use Rattle.sheets.proofs.check.NewestLaws.{placed-none, placed-some}
 use Rattle.sheets.proofs.run.EvalSteps.{known-none, known-reading, known-name}
 use Rattle.sheets.proofs.run.eval.known.Goals as goal
 
-pub returns-in_default-2 : goal.returns-in_default-2
-returns-in_default-2 c = known-none _ _ _ _ _ c.requires _ (placed-none _ _ _ c.place.ensures c.in_default.is) refl _ refl c.in_default-2.ensures
+pub returns-in_default-reading_index : goal.returns-in_default-reading_index
+returns-in_default-reading_index c = known-none _ _ _ _ _ c.requires _ (placed-none _ _ _ c.place.ensures c.in_default.is) refl _ refl c.in_default-reading_index.ensures
 
 pub bounds-floats-i : goal.bounds-floats-i
 bounds-floats-i c = omega arith
@@ -18,7 +18,7 @@ pub tested-requires : goal.tested-requires
 tested-requires c = omega arith
 
 pub returns-in_default : goal.returns-in_default
-returns-in_default c = known-reading _ _ _ _ _ c.requires _ (placed-none _ _ _ c.place.ensures c.in_default.is) refl _ c.in-Some.ensures.0 c.in-Some.ensures.1 _ c.tested.ensures
+returns-in_default c = known-reading _ _ _ _ _ c.requires _ (placed-none _ _ _ c.place.ensures c.in_default.is) refl _ c.in-Some-reading_index.ensures.0 c.in-Some-reading_index.ensures.1 _ c.tested.ensures
 
 pub bounds-names-j : goal.bounds-names-j
 bounds-names-j c = omega (arith, (placed-some _ _ _ c.place.ensures _ c.in-Some.is).0.most)
