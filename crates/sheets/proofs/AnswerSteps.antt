@@ -14,7 +14,7 @@ use Rattle.sheets.specs.declared.refusals.Refused.{Refused}
 use Rattle.sheets.specs.code.Refusals.{refusal_of, code_for}
 use Rattle.sheets.specs.Trees.{Sheet}
 use Rattle.sheets.specs.code.reader.Reader.{Form, formed, bad_line, read_lines, read_sheet}
-use Rattle.sheets.specs.Refusals.{name, kind, limit, centre, apart, Refusal, size, lent, form, ellipsoid, fault, stop, refusal_number}
+use Rattle.sheets.specs.Refusals.{Refusal, size, lent, refusal_number}
 use Rattle.sheets.specs.code.check.Walking.{Outcome, Admits}
 use Rattle.sheets.specs.Machine.{start, surface, machine}
 use Rattle.sheets.specs.Check.{Walked, passes, refuses, walk}
@@ -33,20 +33,9 @@ use Rattle.numbers.proofs.FitLaws.{Fits}
 use Rattle.sheets.specs.Both.{Both}
 use Rattle.sheets.specs.declared.check_and_run.BothAnswers.{BothAnswers}
 use Rattle.sheets.specs.code.run.Running.{Runs}
+use Rattle.sheets.proofs.RefusalCodes.{code-is}
 
 -- ---- the check
-
--- the code's refusal is the one that it was made for
-code-is : (r : Refusal) → refusal_of (code_for r) ≡ r
-code-is size = refl
-code-is lent = refl
-code-is form = refl
-code-is ellipsoid = refl
-code-is (fault name) = refl
-code-is (fault kind) = refl
-code-is (stop limit) = refl
-code-is (stop centre) = refl
-code-is (stop apart) = refl
 
 -- what the check answers of the code's refusal
 abbrev pub told : Refused → CheckAnswer

@@ -22,5 +22,6 @@ pub mod Pinned
 pub mod TriedTotals
 pub mod TriedAparts
 pub mod ByCases
+pub mod RefusalCodes
 pub mod AnswerSteps
 pub mod Computed

@@ -10,6 +10,7 @@ mod refusals;
 mod rows;
 pub mod run;
 
+use crate::refusals::Refusal;
 use frames::{GeocentricPosition, GeodeticPosition, LocalFrame, LocalVector};
 use numbers::{Angle, Length};
 
@@ -32,11 +33,12 @@ pub(crate) enum Unapplied {
     Centre,
 }
 
-// A kind code, of a value or of a line, and a number: of an expression the place after it, of a let the place of the next line, of any other line the bytes then written.
-// Else the number of the refusal that stops the machine, 7, 8 or 9; or that the machine sticks.
+// Why the machine halts: a refusal, 7, 8 or 9, stops it, or it sticks.
 #[derive(Clone, Copy)]
-pub(crate) enum Evaluated {
-    Is(u8, usize),
-    Stops(u8),
+pub(crate) enum Halt {
+    Refused(Refusal),
     Sticks,
 }
+
+// The kind code of an expression's value, and the place after the expression, or of a let the place of the next line.
+pub(crate) type Evaluated = Result<(u8, usize), Halt>;

@@ -1,4 +1,5 @@
 -- Whether the names shown stand apart, as the code tells it: a law for each way out of `is_clear`, `is_clear_below`, the loop of `stand_apart`, and `apart`; and that it is what the definition says. Assumes nothing.
+use Rattle.std.specs.Prelude.{Ok, Err}
 use Prim.Native.Nat.{ℕ, zero, suc, ◌+◌, ◌<◌, ◌≤◌}
 use native.Mathlib.Numerals.{add-one}
 use native.Mathlib.Omega.{arith}
@@ -22,7 +23,8 @@ use Rattle.numbers.proofs.FitLaws.{Fits}
 use Rattle.numbers.proofs.SquareLaws.{square-decides}
 use Rattle.numbers.specs.declared.Vec3.{Vec3}
 use Rattle.frames.specs.declared.GeocentricPosition.{GeocentricPosition}
-use Rattle.sheets.specs.declared.Evaluated.{Evaluated}
+use Rattle.sheets.specs.declared.refusals.Refusal.{Refusal as Code}
+use Rattle.sheets.specs.declared.Halt.{Halt}
 use Rattle.sheets.specs.Table.{when}
 use Rattle.sheets.specs.Limits.{near}
 use Rattle.sheets.specs.Aparts.{Fix, distance, stand_apart}
@@ -105,16 +107,16 @@ module _ (least : Float) (f : List Float) (js : List Bool) where
   -- ---- the answer of an apart
 
   module _ (written : ℕ) (n : Bool) (en : n ≡ near least) where
-    pub apart-limit : n ≡ false → Evaluated.Stops 7 ≡ apart_answer least f js written
+    pub apart-limit : n ≡ false → Err (Halt.Refused Code.Limit) ≡ apart_answer least f js written
     unfolding apart_answer
     apart-limit h = rw (← en, h) refl
 
     module _ (h : n ≡ true) (b : Bool) (eb : b ≡ apart_below least f js 96) where
-      pub apart-holds : b ≡ true → Evaluated.Is 254 written ≡ apart_answer least f js written
+      pub apart-holds : b ≡ true → Ok written ≡ apart_answer least f js written
       unfolding apart_answer
       apart-holds i = rw (← en, h, ← eb, i) refl
 
-      pub apart-close : b ≡ false → Evaluated.Stops 9 ≡ apart_answer least f js written
+      pub apart-close : b ≡ false → Err (Halt.Refused Code.Apart) ≡ apart_answer least f js written
       unfolding apart_answer
       apart-close i = rw (← en, h, ← eb, i) refl
 

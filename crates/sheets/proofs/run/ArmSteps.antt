@@ -14,7 +14,6 @@ use borrow.Author.Tests.{eqb-true, ltb-true, ltb-false}
 use Rattle.frames.specs.declared.Ellipsoid.{Ellipsoid}
 use Rattle.sheets.specs.declared.Value.{Value}
 use Rattle.sheets.specs.declared.Unapplied.{Unapplied}
-use Rattle.sheets.specs.declared.Evaluated.{Evaluated}
 use Rattle.sheets.specs.Text.{Word}
 use Rattle.sheets.specs.Kinds.{Kind, geocentric, geodetic}
 use Rattle.sheets.specs.Table.{when, table}
@@ -24,7 +23,7 @@ use Rattle.sheets.specs.code.reader.Codes.{code_of}
 use Rattle.sheets.specs.code.rows.Applied.{applied, giving, RowGives}
 use Rattle.sheets.specs.code.rows.KindCodes.{kind_at, Missed}
 use Rattle.sheets.specs.code.run.Floats.{values_at}
-use Rattle.sheets.specs.code.run.Evaluating.{LaidAs, RowLaid}
+use Rattle.sheets.specs.code.run.Evaluating.{Evaluated, LaidAs, RowLaid}
 use Rattle.sheets.proofs.rows.KindRowLaws.{MissedEach}
 use Rattle.sheets.proofs.rows.WordLaws.{spelt}
 use Rattle.sheets.proofs.run.LaidSteps.{row_laid}

@@ -1,5 +1,5 @@
 -- A bracket, a step at a time. Assumes nothing.
-use Rattle.std.specs.Prelude.{Option, Some, None}
+use Rattle.std.specs.Prelude.{Option, Some, None, Ok, Err}
 use Prim.Native.Nat.{ℕ, suc, ◌+◌, ◌-◌, ◌*◌, ◌<◌}
 use native.Mathlib.Omega.{arith}
 use mathlib.Core.Path.{◌≡◌, refl, sym, ap, subst, ◌∙◌}
@@ -9,7 +9,7 @@ use lib.Ieee.{Float}
 use Rattle.frames.specs.declared.Ellipsoid.{Ellipsoid}
 use Rattle.frames.specs.declared.LocalFrame.{LocalFrame}
 use Rattle.sheets.specs.declared.Value.{Value}
-use Rattle.sheets.specs.declared.Evaluated.{Evaluated}
+use Rattle.sheets.specs.declared.Halt.{Halt}
 use Rattle.sheets.specs.Text.{Word}
 use Rattle.sheets.specs.Trees.{Exprs, nil}
 use Rattle.sheets.specs.Grammar.{IsWord}
@@ -25,10 +25,11 @@ use Rattle.sheets.specs.code.rows.KindCodes.{key_from, key_of}
 use Rattle.sheets.specs.code.run.Floats.{value_at, values_at, Lies, KeptBelow}
 use Rattle.sheets.specs.code.run.Known.{Ready}
 use Rattle.sheets.specs.declared.check.names.Names.{Names}
-use Rattle.sheets.specs.code.run.Evaluating.{evaluated, LiesOf, Answers, ForKinds, EvalsWith, BracketWith}
+use Rattle.sheets.specs.code.run.Evaluating.{Evaluated, evaluated, LiesOf, Answers, ForKinds, EvalsWith, BracketWith}
 use Rattle.sheets.proofs.reader.ReaderLaws.{close-read}
 use Rattle.sheets.proofs.reader.ExprSteps.{args_none, args-other}
 use Rattle.sheets.proofs.reader.Inverse.{not-read, arg-read, form-read}
+use Rattle.sheets.proofs.run.RunParts.{same-ok}
 use Rattle.sheets.proofs.run.FloatLaws.{kept_refl, kept_trans, values-kept, values-append}
 use Rattle.sheets.proofs.run.ListedLaws.{ready-kept, ready-above}
 
@@ -118,25 +119,15 @@ module _ (s : List ℕ) (at b : ℕ) (eb : b ≡ get_or s at 0) (depth left : �
     less : KeptBelow f room g → KeptBelow f top g
     less k = kept_trans f f g top room (kept_refl f top) k (omega (arith, er))
 
-    pub bracket-stopped : (j : ℕ) → r ≡ Evaluated.Stops j → BracketWith s at depth left e code names key f top (Evaluated.Stops j) g
+    pub bracket-halted : (j : Halt) → r ≡ Err j → BracketWith s at depth left e code names key f top (Err j) g
     unfolding evaluated LiesOf
-    bracket-stopped j es = args_are _ g (λ ps rd ks ek el w iw ec m xs n ef o a. go ps ks w xs m n o a (sym es ∙ a.is))
+    bracket-halted j es = args_are _ g (λ ps rd ks ek el w iw ec m xs n ef o a. go ps ks w xs m n o a (sym es ∙ a.is))
       where
-        go : (ps : Known Value) (ks : List Kind) (w : Word) (xs : Exprs) (m n : ℕ) (o : Out Value) → Answers o m room f r g → Evaluated.Stops j ≡ evaluated o m
-            → Answers (thenᵒ (thenᵒ o (λ y. thenᵒ (evals xs e ps) (λ ys. goes [] (y ∷ ys)))) (λ us. apply_row e (find table w (values_at ks f top ++ us)))) n top f (Evaluated.Stops j) g
+        go : (ps : Known Value) (ks : List Kind) (w : Word) (xs : Exprs) (m n : ℕ) (o : Out Value) → Answers o m room f r g → Err j ≡ evaluated o m
+            → Answers (thenᵒ (thenᵒ o (λ y. thenᵒ (evals xs e ps) (λ ys. goes [] (y ∷ ys)))) (λ us. apply_row e (find table w (values_at ks f top ++ us)))) n top f (Err j) g
         go ps ks w xs m n (goes hs u) a p = let z : ◌≡◌ {A = ℕ} 0 1 = cc in absurd (omega arith)
         go ps ks w xs m n (stops hs c) a p = record { is = p; lies = tt; kept = less a.kept }
-        go ps ks w xs m n (sticks hs) a p = let z : ◌≡◌ {A = ℕ} 0 1 = cc in absurd (omega arith)
-
-    pub bracket-stuck : r ≡ Evaluated.Sticks → BracketWith s at depth left e code names key f top Evaluated.Sticks g
-    unfolding evaluated LiesOf
-    bracket-stuck es = args_are _ g (λ ps rd ks ek el w iw ec m xs n ef o a. go ps ks w xs m n o a (sym es ∙ a.is))
-      where
-        go : (ps : Known Value) (ks : List Kind) (w : Word) (xs : Exprs) (m n : ℕ) (o : Out Value) → Answers o m room f r g → Evaluated.Sticks ≡ evaluated o m
-            → Answers (thenᵒ (thenᵒ o (λ y. thenᵒ (evals xs e ps) (λ ys. goes [] (y ∷ ys)))) (λ us. apply_row e (find table w (values_at ks f top ++ us)))) n top f Evaluated.Sticks g
-        go ps ks w xs m n (goes hs u) a p = let z : ◌≡◌ {A = ℕ} 0 1 = cc in absurd (omega arith)
-        go ps ks w xs m n (stops hs c) a p = let z : ◌≡◌ {A = ℕ} 0 1 = cc in absurd (omega arith)
-        go ps ks w xs m n (sticks hs) a p = record { is = refl; lies = tt; kept = less a.kept }
+        go ps ks w xs m n (sticks hs) a p = record { is = p; lies = tt; kept = less a.kept }
 
 -- ---- one argument more
 
@@ -164,18 +155,18 @@ then-more row vs us v e hs (sticks gs) = refl
 
 module _ (s : List ℕ) (at b : ℕ) (eb : b ≡ get_or s at 0) (depth left : ℕ) (e : Ellipsoid) (code : ℕ) (names : Names) (key : ℕ) (f : List Float) (top : ℕ)
     (h : b ≡ 32) (l : left ≡ 0 → ⊥) (room : ℕ) (er : room ≡ top + 21 * (5 - left)) (r : Evaluated) (g : List Float) (hr : EvalsWith s (at + 1) depth e names f room r g) where
-  pub bracket-more : (kind end : ℕ) → r ≡ Evaluated.Is kind end → (key' : ℕ) → key' ≡ key * 16 + kind + 1 → (q : Evaluated) (g' : List Float)
+  pub bracket-more : (kind end : ℕ) → r ≡ Ok (kind, end) → (key' : ℕ) → key' ≡ key * 16 + kind + 1 → (q : Evaluated) (g' : List Float)
       → BracketWith s end depth (left - 1) e code names key' g top q g' → BracketWith s at depth left e code names key f top q g'
   unfolding evaluated LiesOf
   bracket-more kind end es key' ek' q g' hq = args_are s at b eb depth left e code names key f top h l room er r g hr q g'
       (λ ps rd ks ek el w iw ec m xs n ef o a. go ps rd ks ek el w iw ec m xs n ef o a (sym es ∙ a.is))
     where
       go : (ps : Known Value) → Ready ps names f top → (ks : List Kind) → key_of ks ≡ key → length ks + left ≡ 5 → (w : Word) → IsWord w → code ≡ code_of w
-          → (m : ℕ) (xs : Exprs) (n : ℕ) → read_args (read_expr depth s) (left - 1) s m ≡ got xs n → (o : Out Value) → Answers o m room f r g → Evaluated.Is kind end ≡ evaluated o m
+          → (m : ℕ) (xs : Exprs) (n : ℕ) → read_args (read_expr depth s) (left - 1) s m ≡ got xs n → (o : Out Value) → Answers o m room f r g → Ok (kind, end) ≡ evaluated o m
           → Answers (thenᵒ (thenᵒ o (λ y. thenᵒ (evals xs e ps) (λ ys. goes [] (y ∷ ys)))) (λ us. apply_row e (find table w (values_at ks f top ++ us)))) n top f q g'
       go ps rd ks ek el w iw ec m xs n ef (goes hs v) a p =
-          let ik : kind ≡ kind_code (kind_of v) = cc in
-          let im : m ≡ end = cc in
+          let (ik, em) = same-ok p in
+          let im : m ≡ end = sym em in
           let place : room ≡ top + 21 * length ks = er ∙ ap (λ z. top + 21 * z) (omega (arith, el)) in
           let kp : KeptBelow f (top + 21 * length ks) g = subst (λ z. KeptBelow f z g) place a.kept in
           let us = values_at (ks ++ (kind_of v ∷ [])) g top in

@@ -1,5 +1,5 @@
 -- The evaluator, a step at a time: what follows from each answer that the code met on the way. Assumes nothing.
-use Rattle.std.specs.Prelude.{Option, Some, None}
+use Rattle.std.specs.Prelude.{Option, Some, None, Err}
 use Prim.Native.Nat.{ℕ, ◌+◌, ◌*◌, ◌<◌, ◌≤◌}
 use native.Mathlib.Omega.{arith}
 use mathlib.Core.Path.{◌≡◌, refl, sym, ap, subst, ◌∙◌}
@@ -12,7 +12,7 @@ use borrow.Author.Tests.{eq-eqb, ne_eqb, le-leb, lt-leb}
 use Rattle.frames.specs.declared.Ellipsoid.{Ellipsoid}
 use Rattle.sheets.specs.declared.Value.{Value}
 use Rattle.sheets.specs.declared.Value.TheVariants.{Number}
-use Rattle.sheets.specs.declared.Evaluated.{Evaluated}
+use Rattle.sheets.specs.declared.Halt.{Halt}
 use Rattle.sheets.specs.Text.{Word}
 use Rattle.sheets.specs.Trees.{word_expr, num_expr}
 use Rattle.sheets.specs.Grammar.{IsWord}
@@ -28,7 +28,7 @@ use Rattle.sheets.specs.code.check.Newest as Search
 use Rattle.sheets.specs.code.run.Slots.{empty_slot}
 use Rattle.sheets.specs.code.run.Floats.{float_at, value_at, Copied}
 use Rattle.sheets.specs.code.run.Known.{reading_index, reading_found, word_found, Ready}
-use Rattle.sheets.specs.code.run.Evaluating.{Answers, tested_at, KnownWith, LeafWith, EvalsWith}
+use Rattle.sheets.specs.code.run.Evaluating.{Evaluated, Answers, tested_at, KnownWith, LeafWith, EvalsWith}
 use Rattle.sheets.proofs.reader.ReaderLaws.{expr-leaf}
 use Rattle.sheets.proofs.reader.Viewed.{coded_none, coded-got, doubled-none, doubled-got}
 use Rattle.sheets.proofs.reader.Inverse.{not-read}
@@ -50,12 +50,12 @@ module _ (code n : ℕ) (names : Names) (f : List Float) (top : ℕ) (room : top
   by-found ps r w iw ec = r.tabled.is w iw ∙ ap (word_found r.slots r.readings r.n) (sym ec) ∙ sym (listed-is r.slots r.readings names f r.n r.listed code j pj)
 
   module _ (z : j ≡ 0) (i : ℕ) (ei : i ≡ reading_index code) where
-    pub known-none : 16 ≤ i → KnownWith code n names f top Evaluated.Sticks f
+    pub known-none : 16 ≤ i → KnownWith code n names f top (Err Halt.Sticks) f
     unfolding reading_found
     known-none h = record {
       is = λ ps r w iw ec.
           let u : lookup w ps ≡ none = by-found ps r w iw ec ∙ rw (eq-eqb j 0 z, ← ei, le-leb 16 i h) refl in
-          subst (λ o. Answers (meet o) n top f Evaluated.Sticks f) (sym u) (answers-none top n f []);
+          subst (λ o. Answers (meet o) n top f (Err Halt.Sticks) f) (sym u) (answers-none top n f []);
     }
 
     pub known-reading : i < 16 → (q : Evaluated) → q ≡ tested_at 0 (set f top (float_at f i)) top n → KnownWith code n names f top q (set f top (float_at f i))

@@ -1,4 +1,5 @@
 -- The row by the key that its arguments' kinds made: the row over those kinds, and none for a key that no row has. Assumes nothing.
+use Rattle.std.specs.Prelude.{Err}
 use Prim.Native.Nat.{ℕ}
 use native.Mathlib.Omega.{arith}
 use mathlib.Core.Path.{◌≡◌, refl, sym, ap, subst, ◌∙◌}
@@ -9,7 +10,7 @@ use lib.Ieee.{Float}
 use types.Run.{OneOf}
 use Rattle.frames.specs.declared.Ellipsoid.{Ellipsoid}
 use Rattle.frames.specs.declared.Orientation.{Orientation}
-use Rattle.sheets.specs.declared.Evaluated.{Evaluated}
+use Rattle.sheets.specs.declared.Halt.{Halt}
 use Rattle.sheets.specs.Kinds.{Kind}
 use Rattle.sheets.specs.Table.{table}
 use Rattle.sheets.specs.Lookup.{Hit, find, kind_rows, find_kind}
@@ -17,7 +18,7 @@ use Rattle.sheets.specs.Machine.{apply_row}
 use Rattle.sheets.specs.Claim.{All}
 use Rattle.sheets.specs.code.rows.KindCodes.{key_of, kind_or_255, Missed}
 use Rattle.sheets.specs.code.run.Floats.{values_at}
-use Rattle.sheets.specs.code.run.Evaluating.{Answers, RowLaid, ForKinds}
+use Rattle.sheets.specs.code.run.Evaluating.{Evaluated, Answers, RowLaid, ForKinds}
 use Rattle.sheets.proofs.rows.FindKind.{given, mapped, find-kind}
 use Rattle.sheets.proofs.rows.KindRowLaws.{kind-small, key-same, row-kind, all_among, no_key}
 use Rattle.sheets.proofs.run.FloatLaws.{kinds-of-at}
@@ -41,12 +42,12 @@ module _ {e : Ellipsoid} {code key : ℕ} {f : List Float} {at n : ℕ} where
   by-orientation kinds back us t {o} m h r = by-kinds (kinds o) (named (λ u. key_of (kinds u)) back us t m h) r
 
   -- the last arm: no row has the key
-  pub no-kinds : (js ks : List ℕ) → T (all_among (λ p. key_of p.takes) (kind_rows table) js ks) → Missed js key → Missed ks key → ForKinds e code key f at n Evaluated.Sticks f
+  pub no-kinds : (js ks : List ℕ) → T (all_among (λ p. key_of p.takes) (kind_rows table) js ks) → Missed js key → Missed ks key → ForKinds e code key f at n (Err Halt.Sticks) f
   no-kinds js ks t mj mk = record {
     is = λ zs k. record {
       is = λ lf w hw c.
           let r = row-kind code key 255 (no_key js ks t code key mj mk) w hw c zs k in
           let s = find-kind table w (values_at zs f at) ∙ ap (find_kind table w) (kinds-of-at zs f at) in
-          subst (λ o. Answers (apply_row e o) n at f Evaluated.Sticks f) (sym (found_none (find table w (values_at zs f at)) (r ∙ ap kind_or_255 (sym s)))) (answers-none at n f []);
+          subst (λ o. Answers (apply_row e o) n at f (Err Halt.Sticks) f) (sym (found_none (find table w (values_at zs f at)) (r ∙ ap kind_or_255 (sym s)))) (answers-none at n f []);
     };
   }

@@ -18,19 +18,21 @@ use Rattle.sheets.specs.declared.Value.{Value}
 use Rattle.sheets.specs.declared.Value.TheVariants.{Geodetic}
 use Rattle.sheets.specs.declared.Unapplied.{Unapplied}
 use Rattle.sheets.specs.declared.Unapplied.TheVariants.{NoRow, Centre}
-use Rattle.sheets.specs.declared.Evaluated.{Evaluated}
+use Rattle.sheets.specs.declared.refusals.Refusal.{Refusal as Code}
+use Rattle.sheets.specs.declared.Halt.{Halt}
 use Rattle.sheets.specs.Text.{Word}
 use Rattle.sheets.specs.Kinds.{Kind, kind_of, kind_code, letter_of, same_kinds}
 use Rattle.sheets.specs.Limits.{in_limit}
 use Rattle.sheets.specs.Table.{on, when, table}
 use Rattle.sheets.specs.Lookup.{same_word, Hit, find, KindRow, kind_rows, search, find_kind}
-use Rattle.sheets.specs.Refusals.{Stop, centre, stop, refusal_number}
+use Rattle.sheets.specs.Refusals.{Stop, centre, stop}
 use Rattle.sheets.specs.Machine.{stops, sticks, test, made, result, provided, apply_row}
+use Rattle.sheets.specs.code.Refusals.{code_for}
 use Rattle.sheets.specs.code.reader.Codes.{code_of}
 use Rattle.sheets.specs.code.rows.Applied.{unless_near, applied, giving, RowGives}
 use Rattle.sheets.specs.code.rows.KindCodes.{Missed}
 use Rattle.sheets.specs.code.run.Floats.{value_at, values_at, Lies, lay, KeptBelow, IsLaid}
-use Rattle.sheets.specs.code.run.Evaluating.{evaluated, LiesOf, Answers, tested_at, out_of, unapplied, LaidAs, RowLaid}
+use Rattle.sheets.specs.code.run.Evaluating.{Evaluated, evaluated, LiesOf, Answers, tested_at, out_of, unapplied, LaidAs, RowLaid}
 use Rattle.sheets.proofs.reader.CodeLaws.{code_same}
 use Rattle.sheets.proofs.check.KindExact.{same_word_lem, same-kinds}
 use Rattle.sheets.proofs.rows.FindKind.{given, mapped, find-kind}
@@ -43,18 +45,18 @@ use Rattle.sheets.proofs.run.FloatLaws.{kinds-of-at, kept_refl, kept_trans, kept
 module _ (at n : ℕ) (f f' : List Float) where
   pub answers-tested : (fs : List LocalFrame) (v : Value) → Lies f' at v → KeptBelow f at f' → (k : ℕ) → k ≡ kind_code (kind_of v) → (q : Evaluated) → q ≡ tested_at k f' at n → Answers (test fs (in_limit v) v) n at f q f'
   unfolding evaluated LiesOf
-  answers-tested fs v lies kept k e q h = go (in_limit v) (h ∙ ap (λ m. tested_at m f' at n) e ∙ ap (λ x. when (in_limit x) (Evaluated.Is (kind_code (kind_of v)) n) (Evaluated.Stops 7)) (ap (λ j. value_at j f' at) (kind-at (kind_of v)).0 ∙ lies.is))
+  answers-tested fs v lies kept k e q h = go (in_limit v) (h ∙ ap (λ m. tested_at m f' at n) e ∙ ap (λ x. when (in_limit x) (Ok (kind_code (kind_of v), n)) (Err (Halt.Refused Code.Limit))) (ap (λ j. value_at j f' at) (kind-at (kind_of v)).0 ∙ lies.is))
     where
-      go : (b : Bool) → q ≡ when b (Evaluated.Is (kind_code (kind_of v)) n) (Evaluated.Stops 7) → Answers (test fs b v) n at f q f'
+      go : (b : Bool) → q ≡ when b (Ok (kind_code (kind_of v), n)) (Err (Halt.Refused Code.Limit)) → Answers (test fs b v) n at f q f'
       go true p = record { is = p; lies = lies; kept = kept }
       go false p = record { is = p; lies = tt; kept = kept }
 
 module _ (at n : ℕ) (f : List Float) (fs : List LocalFrame) where
-  pub answers-none : Answers (sticks fs) n at f Evaluated.Sticks f
+  pub answers-none : Answers (sticks fs) n at f (Err Halt.Sticks) f
   unfolding evaluated LiesOf
   answers-none = record { is = refl; lies = tt; kept = kept_refl f at }
 
-  pub answers-stops : (r : Stop) → Answers (stops fs r) n at f (Evaluated.Stops (refusal_number (stop r))) f
+  pub answers-stops : (r : Stop) → Answers (stops fs r) n at f (Err (Halt.Refused (code_for (stop r)))) f
   unfolding evaluated LiesOf
   answers-stops r = record { is = refl; lies = tt; kept = kept_refl f at }
 
@@ -73,9 +75,9 @@ module _ (f : List Float) (at n : ℕ) where
   pub laid-value : (v : Value) (k : ℕ) (f' : List Float) → IsLaid v f at k f' → (q : Evaluated) → q ≡ tested_at k f' at n → LaidAs (Ok v) f at n q f'
   laid-value v k f' l q h = record { is = λ lf. answers-tested at n f f' (made v) v (l.lies lf) l.kept k l.code q h }
 
-  pub laid-unapplied : (u : Unapplied) (q : Evaluated) → q ≡ unapplied u → LaidAs (Err u) f at n q f
-  laid-unapplied NoRow q e = rw e (record { is = λ lf. answers-none at n f [] })
-  laid-unapplied Centre q e = rw e (record { is = λ lf. answers-stops at n f [] centre })
+  pub laid-unapplied : (u : Unapplied) (h : Halt) → h ≡ unapplied u → LaidAs (Err u) f at n (Err h) f
+  laid-unapplied NoRow h e = rw e (record { is = λ lf. answers-none at n f [] })
+  laid-unapplied Centre h e = rw e (record { is = λ lf. answers-stops at n f [] centre })
 
 -- ---- the machine's step
 
@@ -148,9 +150,9 @@ unfolding find_kind
 find_none ls codes t w ks k m vs e = none-mapped (find table w vs) (find-kind table w vs ∙ ap (find_kind table w) e ∙ search-none ls codes w ks k m (kind_rows table) t)
 
 -- for kinds of these letters, every row's word has one of these codes
-pub row-none : (ls codes : List ℕ) → T (all_apart ls codes (kind_rows table)) → (e : Ellipsoid) (code : ℕ) (ks : List Kind) → T (like ls ks) → (f : List Float) (at end : ℕ) → Missed codes code → RowLaid e code ks f at end Evaluated.Sticks f
+pub row-none : (ls codes : List ℕ) → T (all_apart ls codes (kind_rows table)) → (e : Ellipsoid) (code : ℕ) (ks : List Kind) → T (like ls ks) → (f : List Float) (at end : ℕ) → Missed codes code → RowLaid e code ks f at end (Err Halt.Sticks) f
 row-none ls codes t e code ks k f at end m = record {
-  is = λ lf w hw d. subst (λ o. Answers (apply_row e o) end at f Evaluated.Sticks f) (sym (find_none ls codes t w ks k (subst (Missed codes) d m) (values_at ks f at) (kinds-of-at ks f at))) (answers-none at end f []);
+  is = λ lf w hw d. subst (λ o. Answers (apply_row e o) end at f (Err Halt.Sticks) f) (sym (find_none ls codes t w ks k (subst (Missed codes) d m) (values_at ks f at) (kinds-of-at ks f at))) (answers-none at end f []);
 }
 
 -- ---- the values of the arguments, one by one

@@ -1,35 +1,31 @@
--- The pieces of the run over the lines: a law for each way out of `put_readings`, `let_value` and `stopped`. Assumes nothing.
-use Rattle.std.specs.Prelude.{Option, Some, None}
+-- The pieces of the run over the lines: a law for each way out of `put_readings` and `let_value`. Assumes nothing.
+use Rattle.std.specs.Prelude.{Option, Some, None, Result, Ok, Err}
+use Rattle.std.specs.Option.{ok_or}
 use Prim.Native.Nat.{ℕ, ◌+◌, ◌-◌, ◌<◌, ◌≤◌}
 use native.Mathlib.Omega.{arith}
-use mathlib.Core.Path.{◌≡◌, refl, sym, ap, subst, ◌∙◌}
+use mathlib.Core.Path.{◌≡◌, refl, sym, ap, ◌∙◌}
 use mathlib.Core.Bool.{Bool, true, false}
-use mathlib.Core.List.{List, [], ◌∷◌, ◌++◌}
+use mathlib.Core.List.{List, ◌++◌}
 use lib.Dec.{ltb}
 use lib.ListN.{length, get_or, take, drop, replicate, length-append, length-drop, length-replicate, get_or-replicate, get_or-eq_default, get_or-append}
 use lib.Seq.{length-take-le}
 use Rattle.std.proofs.lemmas.List.{get_or-take, get_or-drop, get_or-append_right}
 use lib.Ieee.{Float, nan}
-use types.Run.{OneOf, miss}
-use denote.Enum.Declared.{tag_of}
 use borrow.Author.Tests.{ltb-true, ltb-false}
 use Rattle.numbers.specs.Ops.{num}
 use Rattle.frames.specs.declared.Ellipsoid.{Ellipsoid}
 use Rattle.sheets.specs.declared.Value.{Value}
-use Rattle.sheets.specs.declared.answers.RunAnswer.{RunAnswer}
-use Rattle.sheets.specs.declared.Evaluated.{Evaluated}
+use Rattle.sheets.specs.declared.Halt.{Halt}
 use Rattle.sheets.specs.Trees.{let_line}
-use Rattle.sheets.specs.Kinds.{kind_of, kind_code}
 use Rattle.sheets.specs.Machine.{Out, goes, stops, sticks, eval}
 use Rattle.sheets.specs.code.reader.Reader.{read_expr, closing, rest}
 use Rattle.sheets.specs.code.reader.Views.{closed}
 use Rattle.sheets.specs.code.run.Floats.{float_at}
 use Rattle.sheets.specs.declared.check.names.Names.{Names}
-use Rattle.sheets.specs.code.run.Evaluating.{evaluated, EvalsWith}
-use Rattle.sheets.specs.code.run.Running.{WithReadings, LetWith, stopped_at}
+use Rattle.sheets.specs.code.run.Evaluating.{Evaluated, evaluated, EvalsWith}
+use Rattle.sheets.specs.code.run.Running.{WithReadings, LetWith}
 use Rattle.sheets.proofs.reader.Inverse.{then-read, closing-read}
 use Rattle.sheets.proofs.run.KnownLaws.{get_or-inside}
-use Rattle.sheets.specs.contracts.Evaluated as evaluation
 
 -- ---- the readings among the floats
 
@@ -55,34 +51,29 @@ readings-put rs f n {x} few inside all ex = record { is = λ e. (size e, λ j h.
         ∙ get_or-replicate 2940 (n + (j - n)) (num 0) nan (omega arith)
         ∙ sym (get_or-eq_default rs (num 0) (all j i h))
 
--- ---- no value
+-- ---- a value, or none
 
-abbrev pub NotIs : Evaluated → Type 0
-NotIs r = OneOf (1 ∷ 2 ∷ []) (tag_of evaluation.the_type r)
+pub same-ok : {j k m n : ℕ} → ◌≡◌ {A = Evaluated} (Ok (j, m)) (Ok (k, n)) → (j ≡ k) × (m ≡ n)
+same-ok {j} {k} {m} {n} e = let i : ◌≡◌ {A = ℕ × ℕ} (j, m) (k, n) = cc in (ap (λ (p : ℕ × ℕ). p.0) i, ap (λ (p : ℕ × ℕ). p.1) i)
 
-pub not_is {ℓ} : {C : Type ℓ} (r : Evaluated) (k n : ℕ) → NotIs r → r ≡ Evaluated.Is k n → C
-not_is r k n h e = absurd (miss (1 ∷ 2 ∷ []) 0 tt (subst NotIs e h))
+pub not-ok : {C : Type 0} (h : Halt) (p : ℕ × ℕ) → ◌≡◌ {A = Evaluated} (Err h) (Ok p) → C
+not-ok h p e = let z : ◌≡◌ {A = ℕ} 0 1 = cc in absurd (omega arith)
 
--- it does not depend on the place
-not_at : (r : Evaluated) (o : Out Value) (m n : ℕ) → NotIs r → r ≡ evaluated o m → r ≡ evaluated o n
+-- where there is none, the answer does not depend on the place
+not_at : (h : Halt) (o : Out Value) (m n : ℕ) → Err h ≡ evaluated o m → Err h ≡ evaluated o n
 unfolding evaluated
-not_at r (goes fs v) m n h e = not_is r _ m h e
-not_at r (stops fs c) m n h e = e
-not_at r (sticks fs) m n h e = e
+not_at h (goes fs v) m n e = not-ok h _ e
+not_at h (stops fs c) m n e = e
+not_at h (sticks fs) m n e = e
 
-module _ (r : Evaluated) (i m : ℕ) (a : RunAnswer) where
-  pub stopped_by : (k : ℕ) → r ≡ Evaluated.Stops k → a ≡ record { number = k; line = i; written = m } → a ≡ stopped_at r i m
-  unfolding stopped_at
-  stopped_by k e ea = rw e ea
+-- a place that may be lacking, where the machine sticks without it
+pub or-stuck : (c : Option ℕ) (r : Result ℕ Halt) → r ≡ ok_or c Halt.Sticks → (i : Halt) → r ≡ Err i → c ≡ None
+or-stuck None r e i ei = refl
+or-stuck (Some n) r e i ei = let z : ◌≡◌ {A = ℕ} 0 1 = cc in absurd (omega arith)
 
-  pub stopped-else : OneOf (0 ∷ 2 ∷ []) (tag_of evaluation.the_type r) → a ≡ record { number = 0; line = i; written = m } → a ≡ stopped_at r i m
-  unfolding stopped_at
-  stopped-else h ea = go r h
-    where
-      go : (r : Evaluated) → OneOf (0 ∷ 2 ∷ []) (tag_of evaluation.the_type r) → a ≡ stopped_at r i m
-      go (Evaluated.Is k n) h = ea
-      go (Evaluated.Stops k) h = absurd (miss (0 ∷ 2 ∷ []) 1 tt h)
-      go Evaluated.Sticks h = ea
+pub or-place : (c : Option ℕ) (r : Result ℕ Halt) → r ≡ ok_or c Halt.Sticks → (n : ℕ) → r ≡ Ok n → c ≡ Some n
+or-place None r e n en = let z : ◌≡◌ {A = ℕ} 0 1 = cc in absurd (omega arith)
+or-place (Some m) r e n en = let i : m ≡ n = cc in ap (λ z. Some z) i
 
 -- ---- what is left of a let
 
@@ -97,24 +88,23 @@ module _ (s : List ℕ) (at : ℕ) (e : Ellipsoid) (names : Names) (f : List Flo
         (x, el, record { is = k (eval x e ps) j n a.is et; lies = a.lies; kept = a.kept });
   }
 
-  pub let-not : NotIs r → LetWith s at e names f top r g
-  let-not m = let_by r (λ o j n er et. not_at r o j n m er)
+  pub let-not : (i : Halt) → r ≡ Err i → LetWith s at e names f top (Err i) g
+  let-not i ei = let_by (Err i) (λ o j n er et. not_at i o j n (sym ei ∙ er))
 
-  module _ (kind end : ℕ) (er : r ≡ Evaluated.Is kind end) (c : Option ℕ) (ec : c ≡ closed s end) where
-    let-end : (q : Evaluated) → ((n : ℕ) → closed s end ≡ Some n → q ≡ Evaluated.Is kind n) → LetWith s at e names f top q g
+  module _ (kind end : ℕ) (er : r ≡ Ok (kind, end)) (c : Option ℕ) (ec : c ≡ closed s end) where
+    let-end : (q : Evaluated) → ((n : ℕ) → closed s end ≡ Some n → q ≡ Ok (kind, n)) → LetWith s at e names f top q g
     unfolding evaluated
     let-end q k = let_by q go
       where
         go : (o : Out Value) (j n : ℕ) → r ≡ evaluated o j → closed s j ≡ Some n → q ≡ evaluated o n
         go (goes fs v) j n e et =
-            let i : end ≡ j = cc in
-            let ik : kind ≡ kind_code (kind_of v) = cc in
-            k n (ap (closed s) i ∙ et) ∙ ap (λ z. Evaluated.Is z n) ik
-        go (stops fs x) j n e et = let z : ◌≡◌ {A = ℕ} 0 1 = cc in absurd (omega arith)
-        go (sticks fs) j n e et = let z : ◌≡◌ {A = ℕ} 0 1 = cc in absurd (omega arith)
+            let (ik, i) = same-ok (sym er ∙ e) in
+            k n (ap (closed s) i ∙ et) ∙ ap (λ z. Ok (z, n)) ik
+        go (stops fs x) j n e et = not-ok _ _ (sym e ∙ er)
+        go (sticks fs) j n e et = not-ok _ _ (sym e ∙ er)
 
-    pub let-is : (next : ℕ) → c ≡ Some next → LetWith s at e names f top (Evaluated.Is kind next) g
-    let-is next en = let-end _ (λ n et. let i : next ≡ n = cc in ap (Evaluated.Is kind) i)
+    pub let-is : (next : ℕ) → c ≡ Some next → LetWith s at e names f top (Ok (kind, next)) g
+    let-is next en = let-end _ (λ n et. let i : next ≡ n = cc in ap (λ z. Ok (kind, z)) i)
 
     pub let-unended : c ≡ None → (q : Evaluated) → LetWith s at e names f top q g
     let-unended en q = let-end q (λ n et. let z : ◌≡◌ {A = ℕ} 0 1 = cc in absurd (omega arith))

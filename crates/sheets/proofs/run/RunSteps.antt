@@ -1,5 +1,5 @@
 -- The run over the lines, a step at a time: a law for each way out of `run_lines` and each way round its loop. Assumes nothing.
-use Rattle.std.specs.Prelude.{Option, Some}
+use Rattle.std.specs.Prelude.{Option, Some, Result, Ok, Err}
 use Prim.Native.Nat.{ℕ, ◌+◌, ◌*◌, ◌<◌, ◌≤◌}
 use native.Mathlib.Omega.{arith}
 use mathlib.Core.Path.{◌≡◌, refl, sym, ap, subst, ◌∙◌}
@@ -16,7 +16,7 @@ use Rattle.sheets.specs.declared.rows.value.Slot.{Slot}
 use Rattle.sheets.specs.declared.reader.lines.WholeLine.{WholeLine}
 use Rattle.sheets.specs.declared.reader.lines.LineHead.{LineHead}
 use Rattle.sheets.specs.declared.answers.RunAnswer.{RunAnswer}
-use Rattle.sheets.specs.declared.Evaluated.{Evaluated}
+use Rattle.sheets.specs.declared.Halt.{Halt}
 use Rattle.sheets.specs.declared.run.shown.Shown.{Shown}
 use Rattle.sheets.specs.Text.{Word}
 use Rattle.sheets.specs.Trees.{Expr, Line, let_line, numbered}
@@ -37,7 +37,7 @@ use Rattle.sheets.specs.code.check.Newest as Search
 use Rattle.sheets.specs.code.run.Floats.{Lies}
 use Rattle.sheets.specs.code.run.Known.{Tabled, Ready}
 use Rattle.sheets.specs.code.run.Keeping.{nothing_kept, Lined, FixesKept}
-use Rattle.sheets.specs.code.run.Evaluating.{Answers}
+use Rattle.sheets.specs.code.run.Evaluating.{Evaluated, Answers}
 use Rattle.sheets.specs.code.run.Running.{WithReadings, LetWith, GivenAt, stopped_at, Runs}
 use Rattle.sheets.specs.code.run.Wholes.{Names, LineDoes}
 use Rattle.sheets.proofs.reader.LineNumbers.{number-next}
@@ -47,7 +47,6 @@ use Rattle.sheets.proofs.reader.Walks.{Step, walk_end, walk-line}
 use Rattle.sheets.proofs.run.KnownLaws.{tabled_start, tabled-let}
 use Rattle.sheets.proofs.run.ListedLaws.{listed_start, listed-let}
 use Rattle.sheets.proofs.run.FixLaws.{no_lets, let_at, rising_none, rising-line, rising-let, lined-start, lined-let, fixes-none, fixes-let}
-use Rattle.sheets.proofs.run.RunParts.{NotIs}
 use Rattle.sheets.proofs.run.StepLaws.{onwards, line-stops, given, let-step, answers-is}
 use Rattle.sheets.proofs.run.Stages.{Stage, Now}
 use Rattle.sheets.proofs.run.WholeSteps.{Comes, whole-comes}
@@ -155,14 +154,14 @@ module _ {s : List ℕ} {e : Ellipsoid} {rs : List Float} {d : List ℕ} {h : St
           let (x, ey, a) = hl.is st.scope.known ready says.0 y next er in
           (x, ey, subst (λ z. Answers (eval x z st.scope.known) next (21 * (h.n + 1)) h.floats r g) (sym now.surface) a)
 
-      pub runs-let-not : NotIs r → (a : RunAnswer) → a ≡ stopped_at r h.line h.written → RunsFrom s e rs d h a h.out
+      pub runs-let-not : (i : Halt) → r ≡ Err i → (a : RunAnswer) → a ≡ stopped_at i h.line h.written → RunsFrom s e rs d h a h.out
       unfolding step
-      runs-let-not m a ea = by-line a h.out (λ ls st now sp un.
+      runs-let-not i ei a ea = by-line a h.out (λ ls st now sp un.
           let (x, ey, an) = let-here ls st now sp.line sp.next sp.stands in
-          line-stops h.line st sp.line sp.rest (eval x st.ellipsoid st.scope.known) _ (ap (step h.line st) ey) r sp.next an.is m h.written now.count d h.out now.text a ea un)
+          line-stops h.line st sp.line sp.rest (eval x st.ellipsoid st.scope.known) _ (ap (step h.line st) ey) i sp.next (sym ei ∙ an.is) h.written now.count d h.out now.text a ea un)
 
       -- the name's slot is filled
-      pub runs-let : (kind next : ℕ) → r ≡ Evaluated.Is kind next → h.n < 95 → (y : Slot) (names : Given) → GivenAt code kind (h.n + 1) g h.names y names → (q : RunAnswer) (out' : List ℕ)
+      pub runs-let : (kind next : ℕ) → r ≡ Ok (kind, next) → h.n < 95 → (y : Slot) (names : Given) → GivenAt code kind (h.n + 1) g h.names y names → (q : RunAnswer) (out' : List ℕ)
           → RunsFrom s e rs d (record { at = next; line = h.line + 1; slots = set h.slots (h.n + 1) y; names = names; shown = h.shown; floats = g; n = h.n + 1; written = h.written; out = h.out }) q out'
           → RunsFrom s e rs d h q out'
       runs-let kind next er few y names hg q out' hr = by-line q out' (λ ls st now sp un.
@@ -196,7 +195,7 @@ module _ {s : List ℕ} {e : Ellipsoid} {rs : List Float} {d : List ℕ} {h : St
     -- ---- a line that is read whole
 
     module _ (head : Option LineHead) (eh : head ≡ line_head s h.at) (y : WholeLine) (next : ℕ) (is : head ≡ Some (LineHead.Whole y next)) (high : h.line ≤ 96)
-        (c : ℕ) (hc : Names y c) (j : ℕ) (hj : Search.Placed h.names c j) (x : Slot) (r : Evaluated) (shown : Shown) (out : List ℕ) (hr : LineDoes s y j (get_or h.slots j x).value h.floats h.shown h.out h.written r shown out) where
+        (c : ℕ) (hc : Names y c) (j : ℕ) (hj : Search.Placed h.names c j) (x : Slot) (r : Result ℕ Halt) (shown : Shown) (out : List ℕ) (hr : LineDoes s y j (get_or h.slots j x).value h.floats h.shown h.out h.written r shown out) where
       whole_here : (ls : List Line) (st : State) (now : Now s e rs d h ls st) (l : Line) (m : ℕ) → read_line s h.at ≡ got l m → (next ≡ m) × Comes h now.lets d st l r shown out
       whole_here ls st now l m el =
           let (k, t, ek) = head-says s h.at head eh _ is in
@@ -204,18 +203,18 @@ module _ {s : List ℕ} {e : Ellipsoid} {rs : List Float} {d : List ℕ} {h : St
           let kl : k ≡ l = cc in
           (cc, subst (λ k. Comes h now.lets d st k r shown out) kl (whole-comes now high r shown out y k t c hc j hj x hr))
 
-      pub runs-whole-not : NotIs r → (a : RunAnswer) → a ≡ stopped_at r h.line h.written → RunsFrom s e rs d h a out
-      runs-whole-not m a ea = by-line a out (λ ls st now sp un.
-          let (o, k, es, er, eo) = (whole_here ls st now sp.line sp.next sp.stands).1.stays m in
-          line-stops h.line st sp.line sp.rest o k es r 0 er m h.written now.count d out (eo ∙ now.text) a ea un)
+      pub runs-whole-not : (i : Halt) → r ≡ Err i → (a : RunAnswer) → a ≡ stopped_at i h.line h.written → RunsFrom s e rs d h a out
+      runs-whole-not i ei a ea = by-line a out (λ ls st now sp un.
+          let (o, k, es, er, eo) = (whole_here ls st now sp.line sp.next sp.stands).1.stays i ei in
+          line-stops h.line st sp.line sp.rest o k es i 0 er h.written now.count d out (eo ∙ now.text) a ea un)
 
       -- the text may grow by a line
-      pub runs-whole : 2 ≤ h.line → (kind count : ℕ) → r ≡ Evaluated.Is kind count → (q : RunAnswer) (out' : List ℕ)
+      pub runs-whole : 2 ≤ h.line → (count : ℕ) → r ≡ Ok count → (q : RunAnswer) (out' : List ℕ)
           → RunsFrom s e rs d (record { at = next; line = h.line + 1; slots = h.slots; names = h.names; shown = shown; floats = h.floats; n = h.n; written = count; out = out }) q out'
           → RunsFrom s e rs d h q out'
-      runs-whole low kind count er q out' on = by-line q out' (λ ls st now sp un.
+      runs-whole low count er q out' on = by-line q out' (λ ls st now sp un.
           let (en, comes) = whole_here ls st now sp.line sp.next sp.stands in
-          let (st', es, b) = comes.goes_on kind count er in
+          let (st', es, b) = comes.goes_on count er in
           onwards h.line st st' sp.line sp.rest [] es d q out' (on.is sp.rest st' (record {
             size = now.size;
             has_number = number-after ls st now sp next en;

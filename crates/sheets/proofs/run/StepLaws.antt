@@ -1,7 +1,8 @@
 -- The machine's step over a line, by what the code of the line answers. Assumes nothing.
+use Rattle.std.specs.Prelude.{Ok, Err}
 use Prim.Native.Nat.{ℕ, suc, ◌+◌}
 use native.Mathlib.Omega.{arith}
-use mathlib.Core.Path.{◌≡◌, refl, sym, ap, subst, ◌∙◌}
+use mathlib.Core.Path.{◌≡◌, refl, sym, ap, ap₂, subst, ◌∙◌}
 use mathlib.Core.Bool.{Bool, true, false}
 use mathlib.Core.List.{List, [], ◌∷◌, ◌++◌}
 use lib.ListN.{length}
@@ -9,23 +10,25 @@ use lib.Ieee.{Float}
 use Rattle.frames.specs.declared.LocalFrame.{LocalFrame}
 use Rattle.sheets.specs.declared.Value.{Value}
 use Rattle.sheets.specs.declared.answers.RunAnswer.{RunAnswer}
-use Rattle.sheets.specs.declared.Evaluated.{Evaluated}
+use Rattle.sheets.specs.declared.Halt.{Halt}
 use Rattle.sheets.specs.Text.{Word}
 use Rattle.sheets.specs.Trees.{Expr, Line, let_line, numbered}
 use Rattle.sheets.specs.Kinds.{kind_of, kind_code}
 use Rattle.sheets.specs.Names.{barred, given_on}
 use Rattle.sheets.specs.Scopes.{with_name, give_if, give}
-use Rattle.sheets.specs.Refusals.{stop, refusal_number}
+use Rattle.sheets.specs.Refusals.{Refusal, stop, refusal_number}
 use Rattle.sheets.specs.Entries.{entry_lines}
 use Rattle.sheets.specs.Machine.{Out, goes, stops, sticks, after, then as thenᵒ, eval, State, rescoped, step, Ran, done, stopped, stuck, afterwards, steps}
 use Rattle.sheets.specs.Answers.{laid, Tells}
 use Rattle.sheets.specs.Claim.{Unstuck}
+use Rattle.sheets.specs.code.Refusals.{code_for}
 use Rattle.sheets.specs.code.rows.KindCodes.{kind_at}
 use Rattle.sheets.specs.code.run.Floats.{value_at, Lies}
-use Rattle.sheets.specs.code.run.Evaluating.{evaluated, LiesOf, Answers}
+use Rattle.sheets.specs.code.run.Evaluating.{Evaluated, evaluated, LiesOf, Answers}
 use Rattle.sheets.specs.code.run.Running.{stopped_at}
+use Rattle.sheets.proofs.RefusalCodes.{code-is}
 use Rattle.sheets.proofs.rows.KindRowLaws.{kind-at}
-use Rattle.sheets.proofs.run.RunParts.{NotIs, not_is}
+use Rattle.sheets.proofs.run.RunParts.{same-ok, not-ok}
 
 -- ---- the answer does not say which frames were made
 
@@ -51,14 +54,15 @@ onwards i st st' y ys fs es d q out' k un =
     rw es (tells-after q out' d fs (steps (numbered (suc i) ys) st') (k' (unstuck-after fs (steps (numbered (suc i) ys) st') (rw es at un))))
 
 -- a line that comes to no value
-pub line-stops : (i : ℕ) (st : State) (y : Line) (ys : List Line) (o : Out Value) (k : Value → Out State) → step i st y ≡ thenᵒ o k → (r : Evaluated) (m : ℕ) → r ≡ evaluated o m → NotIs r
-    → (n : ℕ) → n ≡ length (entry_lines st.entries) → (d out : List ℕ) → out ≡ laid (entry_lines st.entries) d → (a : RunAnswer) → a ≡ stopped_at r i n
+pub line-stops : (i : ℕ) (st : State) (y : Line) (ys : List Line) (o : Out Value) (k : Value → Out State) → step i st y ≡ thenᵒ o k → (h : Halt) (m : ℕ) → Err h ≡ evaluated o m
+    → (n : ℕ) → n ≡ length (entry_lines st.entries) → (d out : List ℕ) → out ≡ laid (entry_lines st.entries) d → (a : RunAnswer) → a ≡ stopped_at h i n
     → Unstuck (steps (numbered i (y ∷ ys)) st) → Tells (steps (numbered i (y ∷ ys)) st) d a out
 unfolding steps evaluated stopped_at
-line-stops i st y ys (goes fs v) k es r m er h n en d out eo a ea un = not_is r _ m h er
-line-stops i st y ys (stops fs c) k es r m er h n en d out eo a ea un =
-    rw es (ea ∙ ap (λ z. stopped_at z i n) er ∙ ap (λ z. record { number = refusal_number (stop c); line = i; written = z }) en, eo)
-line-stops i st y ys (sticks fs) k es r m er h n en d out eo a ea un = absurd (rw es at un)
+line-stops i st y ys (goes fs v) k es h m er n en d out eo a ea un = not-ok h _ er
+line-stops i st y ys (stops fs c) k es h m er n en d out eo a ea un =
+    let eh : h ≡ Halt.Refused (code_for (stop c)) = cc in
+    rw es (ea ∙ ap (λ z. stopped_at z i n) eh ∙ ap₂ (λ (q : Refusal) (z : ℕ). record { number = refusal_number q; line = i; written = z }) (code-is (stop c)) en, eo)
+line-stops i st y ys (sticks fs) k es h m er n en d out eo a ea un = absurd (rw es at un)
 
 -- a let that does not stick gives its name
 abbrev pub given : ℕ → Word → Value → State → State
@@ -75,13 +79,11 @@ let-step i st w x fs v e y ey ys un =
     go false es = es
 
 -- where a let's answer is a value, it lies at the place
-pub answers-is : (o : Out Value) (m top : ℕ) (f : List Float) (r : Evaluated) (g : List Float) → Answers o m top f r g → (kind next : ℕ) → r ≡ Evaluated.Is kind next
+pub answers-is : (o : Out Value) (m top : ℕ) (f : List Float) (r : Evaluated) (g : List Float) → Answers o m top f r g → (kind next : ℕ) → r ≡ Ok (kind, next)
     → (fs : List LocalFrame) × (v : Value) × (o ≡ goes fs v) × (v ≡ value_at (kind_at kind) g top) × Lies g top v × (kind ≡ kind_code (kind_of v)) × (next ≡ m)
 unfolding evaluated LiesOf
 answers-is (goes fs v) m top f r g a kind next er =
-    let ea = a.is in
-    let ek : kind ≡ kind_code (kind_of v) = cc in
-    let en : next ≡ m = cc in
+    let (ek, en) = same-ok (sym er ∙ a.is) in
     (fs, v, refl, sym a.lies.is ∙ ap (λ k. value_at k g top) (sym (kind-at (kind_of v)).0 ∙ ap kind_at (sym ek)), a.lies, ek, en)
-answers-is (stops fs c) m top f r g a kind next er = let ea = a.is in let z : ◌≡◌ {A = ℕ} 0 1 = cc in absurd (omega arith)
-answers-is (sticks fs) m top f r g a kind next er = let ea = a.is in let z : ◌≡◌ {A = ℕ} 0 1 = cc in absurd (omega arith)
+answers-is (stops fs c) m top f r g a kind next er = not-ok _ _ (sym a.is ∙ er)
+answers-is (sticks fs) m top f r g a kind next er = not-ok _ _ (sym a.is ∙ er)

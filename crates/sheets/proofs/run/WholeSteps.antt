@@ -1,4 +1,5 @@
 -- What a line that is read whole comes to in the machine, by what the code answers of it. Assumes nothing.
+use Rattle.std.specs.Prelude.{Result, Ok, Err}
 use Prim.Native.Nat.{ℕ, ◌+◌, ◌≤◌}
 use native.Mathlib.Omega.{arith}
 use mathlib.Core.Path.{◌≡◌, refl, sym, ap, ap₂, subst, ◌∙◌}
@@ -14,7 +15,8 @@ use Rattle.sheets.specs.declared.Value.TheVariants.{Number}
 use Rattle.sheets.specs.declared.rows.value.Slot.{Slot}
 use Rattle.sheets.specs.declared.reader.lines.NameAt.{NameAt}
 use Rattle.sheets.specs.declared.reader.lines.WholeLine.{WholeLine}
-use Rattle.sheets.specs.declared.Evaluated.{Evaluated}
+use Rattle.sheets.specs.declared.refusals.Refusal.{Refusal as Code}
+use Rattle.sheets.specs.declared.Halt.{Halt}
 use Rattle.sheets.specs.declared.run.shown.Shown.{Shown}
 use Rattle.sheets.specs.Text.{Word, ascii}
 use Rattle.sheets.specs.Trees.{Unsigned, signless, Line, show_line, total_line, apart_line}
@@ -46,7 +48,6 @@ use Rattle.sheets.proofs.run.ListedLaws.{placed-few, listed_at, found-position}
 use Rattle.sheets.proofs.run.SumLaws.{total-show, total-total}
 use Rattle.sheets.proofs.run.FixLaws.{fixes-show, fixes-total}
 use Rattle.sheets.proofs.run.ApartSteps.{stand-is}
-use Rattle.sheets.proofs.run.RunParts.{NotIs, not_is}
 use Rattle.sheets.proofs.run.WholeParts.{tested-not, tested-is}
 use Rattle.sheets.proofs.run.Stages.{Stage, Now}
 
@@ -60,13 +61,16 @@ pub record Behind (h : Stage) (lets : ℕ → ℕ) (d : List ℕ) (st st' : Stat
   pub bound : count ≤ h.written + 223
   pub text : out ≡ laid (entry_lines st'.entries) d
 
+halted : {i j : Halt} → ◌≡◌ {A = Result ℕ Halt} (Err i) (Err j) → i ≡ j
+halted e = cc
+
 -- the line does not go on, and nothing is written; or the machine goes on to a state behind it
-pub record Comes (h : Stage) (lets : ℕ → ℕ) (d : List ℕ) (st : State) (l : Line) (r : Evaluated) (shown : Shown) (out : List ℕ) : Type 0 where
-  pub stays : NotIs r → (o : Out Value) × (k : Value → Out State) × (step h.line st l ≡ thenᵒ o k) × (r ≡ evaluated o 0) × (out ≡ h.out)
-  pub goes_on : (kind count : ℕ) → r ≡ Evaluated.Is kind count → (st' : State) × (step h.line st l ≡ goes [] st') × Behind h lets d st st' shown count out
+pub record Comes (h : Stage) (lets : ℕ → ℕ) (d : List ℕ) (st : State) (l : Line) (r : Result ℕ Halt) (shown : Shown) (out : List ℕ) : Type 0 where
+  pub stays : (i : Halt) → r ≡ Err i → (o : Out Value) × (k : Value → Out State) × (step h.line st l ≡ thenᵒ o k) × (Err i ≡ evaluated o 0) × (out ≡ h.out)
+  pub goes_on : (count : ℕ) → r ≡ Ok count → (st' : State) × (step h.line st l ≡ goes [] st') × Behind h lets d st st' shown count out
 
 module _ {s : List ℕ} {e : Ellipsoid} {rs : List Float} {d : List ℕ} {h : Stage} {ls : List Line} {st : State} (now : Now s e rs d h ls st) (high : h.line ≤ 96)
-    (r : Evaluated) (shown : Shown) (out : List ℕ) where
+    (r : Result ℕ Halt) (shown : Shown) (out : List ℕ) where
   abbrev Comes-to : Line → Type 0
   Comes-to l = Comes h now.lets d st l r shown out
 
@@ -75,9 +79,9 @@ module _ {s : List ℕ} {e : Ellipsoid} {rs : List Float} {d : List ℕ} {h : St
       → (t : List ℕ) (from end : ℕ) → read_word t from ≡ got (entry_name a) end → TestedLine t from end (entry_value a) h.out h.written r out
       → (in_limit (entry_value a) ≡ true → FixesKept (fixes (st.entries ++ (a ∷ []))) now.lets shown.places h.floats h.n × (shown.sum ≡ total (st.entries ++ (a ∷ [])))) → Comes-to l
   entry-comes l a k es ek t from end ew tested kept = record {
-    stays = λ n. let (er, eo, rest) = tested-not t from end (entry_value a) h.out h.written r out tested n in (met (entry_value a), k, es, er, eo);
-    goes_on = λ kind count er.
-        let (em, inside, hw) = tested-is t from end (entry_value a) h.out h.written r out tested kind count er in
+    stays = λ i ei. let (er, eo, rest) = tested-not t from end (entry_value a) h.out h.written r out tested i ei in (met (entry_value a), k, es, er, eo);
+    goes_on = λ count er.
+        let (em, inside, hw) = tested-is t from end (entry_value a) h.out h.written r out tested count er in
         let text = entry_lines st.entries in
         let grows = entries-last st.entries a in
         let (eo, ec) = line-laid t from (entry_name a) end ew (entry_value a) text d out count (omega (arith, now.size, now.count, now.bound, high)) (rw (← now.text, ← now.count) hw) in
@@ -104,8 +108,8 @@ module _ {s : List ℕ} {e : Ellipsoid} {rs : List Float} {d : List ℕ} {h : St
       → ShownIf s name o j h.shown h.out h.written r shown out → Comes-to (show_line w)
   unfolding step ShownIf KeptIf evaluated
   show-comes name w ew j few none eo kept sh = record {
-    stays = λ n. (meet none, λ y. goes [] (write st (entry_on w y)), ap (λ o. thenᵒ (meet o) (λ y. goes [] (write st (entry_on w y)))) eo, sh.0, sh.2);
-    goes_on = λ kind count er. let e = sh.0 in let z : ◌≡◌ {A = ℕ} 0 1 = cc in absurd (omega arith);
+    stays = λ i ei. let stuck : i ≡ Halt.Sticks = halted (sym ei ∙ sh.0) in (meet none, λ y. goes [] (write st (entry_on w y)), ap (λ o. thenᵒ (meet o) (λ y. goes [] (write st (entry_on w y)))) eo, ap (λ z. Err z) stuck, sh.2);
+    goes_on = λ count er. let e = sh.0 in let z : ◌≡◌ {A = ℕ} 0 1 = cc in absurd (omega arith);
   }
   show-comes name w ew j few (some v) eo kept sh =
       let g : Given Value = given_on (line_of_let w st.scope.known) w v in
@@ -125,16 +129,16 @@ module _ {s : List ℕ} {e : Ellipsoid} {rs : List Float} {d : List ℕ} {h : St
 
   apart-comes : (q : Unsigned) → r ≡ apart_answer (num_value (signless q)) h.floats h.shown.places h.written → shown ≡ h.shown → out ≡ h.out → Comes-to (apart_line q)
   unfolding step apart_answer evaluated in_limit
-  apart-comes q er ek eo = go (near (num_value (signless q))) refl (stand_apart (num_value (signless q)) (fixes st.entries)) refl (er ∙ ap (λ b. when (near (num_value (signless q))) (when b (Evaluated.Is 254 h.written) (Evaluated.Stops 9)) (Evaluated.Stops 7)) (stand-is (num_value (signless q)) h.floats h.shown.places (fixes st.entries) now.lets h.n h.line now.kept now.rising now.listed.from.few))
+  apart-comes q er ek eo = go (near (num_value (signless q))) refl (stand_apart (num_value (signless q)) (fixes st.entries)) refl (er ∙ ap (λ b. when (near (num_value (signless q))) (when b (Ok h.written) (Err (Halt.Refused Code.Apart))) (Err (Halt.Refused Code.Limit))) (stand-is (num_value (signless q)) h.floats h.shown.places (fixes st.entries) now.lets h.n h.line now.kept now.rising now.listed.from.few))
     where
-      never : {k m : ℕ} {c : ℕ} → r ≡ Evaluated.Stops c → (C : Type 0) → r ≡ Evaluated.Is k m → C
-      never e C i = let z : ◌≡◌ {A = ℕ} 0 1 = cc in absurd (omega arith)
+      stopping : (o : Out Value) (k : Value → Out State) (c : Code) → step h.line st (apart_line q) ≡ thenᵒ o k → Err (Halt.Refused c) ≡ evaluated o 0 → r ≡ Err (Halt.Refused c) → Comes-to (apart_line q)
+      stopping o k c es eq e = record {
+        stays = λ i ei. (o, k, es, ap (λ z. Err z) (halted (sym ei ∙ e)) ∙ eq, eo);
+        goes_on = λ count i. let z : ◌≡◌ {A = ℕ} 0 1 = cc in absurd (omega arith);
+      }
 
-      stopping : (o : Out Value) (k : Value → Out State) (c : ℕ) → step h.line st (apart_line q) ≡ thenᵒ o k → r ≡ evaluated o 0 → r ≡ Evaluated.Stops c → Comes-to (apart_line q)
-      stopping o k c es eq e = record { stays = λ n. (o, k, es, eq, eo); goes_on = λ kind count i. never e _ i }
-
-      behind : (count : ℕ) → r ≡ Evaluated.Is 254 h.written → (kind : ℕ) → r ≡ Evaluated.Is kind count → Behind h now.lets d st st shown count out
-      behind count e kind i =
+      behind : (count : ℕ) → r ≡ Ok h.written → r ≡ Ok count → Behind h now.lets d st st shown count out
+      behind count e i =
           let same : count ≡ h.written = cc in
           record {
             surface = refl;
@@ -149,12 +153,12 @@ module _ {s : List ℕ} {e : Ellipsoid} {rs : List Float} {d : List ℕ} {h : St
       decided : (n b : Bool) → near (num_value (signless q)) ≡ n → stand_apart (num_value (signless q)) (fixes st.entries) ≡ b → step h.line st (apart_line q) ≡ thenᵒ (test [] n (Number (num_value (signless q)))) (λ y. held_apart b st)
       decided n b en eb = ap₂ (λ (n b : Bool). thenᵒ (test [] n (Number (num_value (signless q)))) (λ y. held_apart b st)) en eb
 
-      go : (n : Bool) → near (num_value (signless q)) ≡ n → (b : Bool) → stand_apart (num_value (signless q)) (fixes st.entries) ≡ b → r ≡ when n (when b (Evaluated.Is 254 h.written) (Evaluated.Stops 9)) (Evaluated.Stops 7) → Comes-to (apart_line q)
-      go false en b eb e = stopping (stops [] limit) (λ y. goes [] st) 7 (decided false b en eb) e e
-      go true en false eb e = stopping (stops [] apart) (λ y. goes [] st) 9 (decided true false en eb) e e
+      go : (n : Bool) → near (num_value (signless q)) ≡ n → (b : Bool) → stand_apart (num_value (signless q)) (fixes st.entries) ≡ b → r ≡ when n (when b (Ok h.written) (Err (Halt.Refused Code.Apart))) (Err (Halt.Refused Code.Limit)) → Comes-to (apart_line q)
+      go false en b eb e = stopping (stops [] limit) (λ y. goes [] st) Code.Limit (decided false b en eb) refl e
+      go true en false eb e = stopping (stops [] apart) (λ y. goes [] st) Code.Apart (decided true false en eb) refl e
       go true en true eb e = record {
-        stays = λ n. not_is r 254 h.written n e;
-        goes_on = λ kind count i. (st, decided true true en eb, behind count e kind i);
+        stays = λ i ei. let z : ◌≡◌ {A = ℕ} 0 1 = cc in absurd (omega arith);
+        goes_on = λ count i. (st, decided true true en eb, behind count e i);
       }
 
   -- by its form: the line l stands there, its word at the place j among the names

@@ -2,7 +2,6 @@
 ghost use Rattle.std.specs.Prelude.{◌≡◌, ◌+◌, ◌≤◌};
 ghost use Rattle.sheets.specs.code.run.Evaluating.{ForKinds, ForKindsBeyond, plain_keys, orientation_at, orientation_by};
 
-use crate::Evaluated;
 use crate::run::bracket::Bracket;
 use crate::run::oriented_rows::{
     at_row, frame_row, move_row, scale_row, to_row, turn_row, vector_row, vectors_row,
@@ -10,6 +9,7 @@ use crate::run::oriented_rows::{
 use crate::run::plain_rows::{
     aer_row, body_row, lengths_row, look_row, number_row, position_row, wan_row,
 };
+use crate::{Evaluated, Halt};
 use frames::{Ellipsoid, Orientation};
 
 // The row for the word with this code, over arguments of the kinds that made the key, which is written as in kinds.rt: by the key, then by the word.
@@ -80,6 +80,6 @@ fn oriented_row(b: Bracket, key: u64, floats: &mut [f64; 2940]) -> Evaluated
         0xa4 | 0xb4 | 0xc4 | 0xd4 => to_row(b, o, floats),
         0xa6 | 0xb7 | 0xc8 | 0xd9 => at_row(b, o, floats),
         0xa6222 | 0xb7222 | 0xc8222 | 0xd9222 => move_row(b, o, floats),
-        _ => Evaluated::Sticks,
+        _ => Err(Halt::Sticks),
     }
 }

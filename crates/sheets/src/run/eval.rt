@@ -5,7 +5,6 @@
 ghost use Rattle.std.specs.Prelude.{◌+◌, ◌*◌, ◌≤◌};
 ghost use Rattle.sheets.specs.code.run.Evaluating.{KnownWith, LeafWith, EvalsWith, BracketWith};
 
-use crate::Evaluated;
 use crate::check::names::Names;
 use crate::reader::bytes::{byte, word};
 use crate::reader::num::double;
@@ -13,6 +12,7 @@ use crate::run::apply::apply;
 use crate::run::floats::copy_floats;
 use crate::run::laid::tested;
 use crate::run::readings::reading_index;
+use crate::{Evaluated, Halt};
 use frames::Ellipsoid;
 
 // What the word with this code stands for, laid at `top`; `end` is the place after the word.
@@ -22,7 +22,7 @@ fn known(code: u64, end: usize, names: &Names, floats: &mut [f64; 2940], top: us
 {
     let Some(j) = names.place(code) else {
         let Some(i) = reading_index(code) else {
-            return Evaluated::Sticks;
+            return Err(Halt::Sticks);
         };
         floats[top] = floats[i];
         return tested(0, floats, top, end);
@@ -47,7 +47,7 @@ fn leaf(s: &[u8], at: usize, names: &Names, floats: &mut [f64; 2940], top: usize
                     floats[top] = x;
                     tested(0, floats, top, end)
                 }
-                None => Evaluated::Sticks,
+                None => Err(Halt::Sticks),
             }
         }
     }
@@ -70,11 +70,11 @@ pub fn eval(
     let b = byte(s, at);
     if b == 40 {
         if depth == 0 {
-            return Evaluated::Sticks;
+            return Err(Halt::Sticks);
         }
         let w = word(s, at + 1);
         let Some((code, start)) = w else {
-            return Evaluated::Sticks;
+            return Err(Halt::Sticks);
         };
         return bracket(s, start, depth - 1, e, code, names, floats, top);
     }
@@ -103,22 +103,12 @@ pub fn bracket(
             break;
         }
         let room = top + 21 * n;
-        let r = eval(s, i + 1, depth, e, names, floats, room);
-        match r {
-            Evaluated::Sticks => {
-                return Evaluated::Sticks;
-            }
-            Evaluated::Stops(k) => {
-                return Evaluated::Stops(k);
-            }
-            Evaluated::Is(kind, end) => {
-                key = key * 16 + kind as u64 + 1;
-                i = end;
-            }
-        }
+        let (kind, end) = eval(s, i + 1, depth, e, names, floats, room)?;
+        key = key * 16 + kind as u64 + 1;
+        i = end;
     }
     if byte(s, i) == 41 {
         return apply(e, code, key, floats, top, i + 1);
     }
-    Evaluated::Sticks
+    Err(Halt::Sticks)
 }

@@ -5,9 +5,10 @@ ghost use Rattle.sheets.specs.code.rows.Applied.{giving};
 ghost use Rattle.sheets.specs.code.run.Floats.{IsLaid};
 ghost use Rattle.sheets.specs.code.run.Evaluating.{tested_at, unapplied, LaidAs};
 
+use crate::refusals::Refusal;
 use crate::rows::args::place_of;
 use crate::run::floats::{in_limit_at, lay_frame, lay_three};
-use crate::{Evaluated, Unapplied};
+use crate::{Evaluated, Halt, Unapplied};
 use frames::{GeocentricPosition, GeodeticPosition, LocalFrame, LocalVector};
 use numbers::{Angle, Length};
 
@@ -84,18 +85,18 @@ pub fn tested(kind: u8, floats: &[f64; 2940], top: usize, end: usize) -> Evaluat
     ensures { result ≡ tested_at kind floats.now top end }
 {
     if in_limit_at(kind, floats, top) {
-        return Evaluated::Is(kind, end);
+        return Ok((kind, end));
     }
-    Evaluated::Stops(7)
+    Err(Halt::Refused(Refusal::Limit))
 }
 
-impl From<Unapplied> for Evaluated {
-    ghost from_gives = { λ u q. q ≡ unapplied u };
+impl From<Unapplied> for Halt {
+    ghost from_gives = { λ u h. h ≡ unapplied u };
 
-    fn from(u: Unapplied) -> Evaluated {
+    fn from(u: Unapplied) -> Halt {
         match u {
-            Unapplied::NoRow => Evaluated::Sticks,
-            Unapplied::Centre => Evaluated::Stops(8),
+            Unapplied::NoRow => Halt::Sticks,
+            Unapplied::Centre => Halt::Refused(Refusal::Centre),
         }
     }
 }
@@ -110,11 +111,7 @@ pub fn laid<T: AsFloats>(
     requires { top + 21 ≤ 2940 }
     ensures { LaidAs (giving T.value r) floats.old top end result floats.new }
 {
-    match r {
-        Ok(x) => {
-            let kind = x.lay(floats, top);
-            tested(kind, floats, top, end)
-        }
-        Err(unapplied) => Evaluated::from(unapplied),
-    }
+    let x = r?;
+    let kind = x.lay(floats, top);
+    tested(kind, floats, top, end)
 }

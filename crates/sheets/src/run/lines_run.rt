@@ -3,7 +3,6 @@ ghost use Rattle.std.specs.Prelude.{◌≡◌, ◌+◌, ◌≤◌};
 ghost use Rattle.sheets.specs.LineNumbers.{line_number};
 ghost use Rattle.sheets.specs.code.run.Running.{LetWith, GivenAt, stopped_at, Runs};
 
-use crate::Evaluated;
 use crate::answers::{RunAnswer, run_answer};
 use crate::check::names::Names;
 use crate::reader::lines::{LineHead, NameAt, closing, line_head};
@@ -13,6 +12,7 @@ use crate::run::floats::value_at;
 use crate::run::readings::put_readings;
 use crate::run::shown::Shown;
 use crate::run::whole::{named, whole_line};
+use crate::{Evaluated, Halt};
 use frames::Ellipsoid;
 
 // What a let gives, from the place of its expression: the kind's code of its value, which lies at `top`, and the place of the next line.
@@ -27,15 +27,9 @@ fn let_value(
     requires { top + 945 ≤ 2940 }
     ensures { LetWith s.now at e names.now floats.old top result floats.new }
 {
-    let r = eval(s, at, 11, e, names, floats, top);
-    let Evaluated::Is(kind, end) = r else {
-        return r;
-    };
-    let c = closing(s, end);
-    match c {
-        Some(next) => Evaluated::Is(kind, next),
-        None => Evaluated::Sticks,
-    }
+    let (kind, end) = eval(s, at, 11, e, names, floats, top)?;
+    let after = closing(s, end).ok_or(Halt::Sticks)?;
+    Ok((kind, after))
 }
 
 // A name is given at a place, where its value lies: `names` get its word and its kind, and its slot is answered.
@@ -50,12 +44,12 @@ fn give(name: NameAt, kind: u8, place: usize, floats: &[f64; 2940], names: &mut 
 }
 
 // The answer where a line does not go on. An admitted sheet never sticks, so what is answered then does not matter.
-fn stopped(r: Evaluated, line: usize, written: usize) -> RunAnswer
-    ensures { result ≡ stopped_at r line written }
+fn stopped(halt: Halt, line: usize, written: usize) -> RunAnswer
+    ensures { result ≡ stopped_at halt line written }
 {
-    match r {
-        Evaluated::Stops(number) => run_answer(number, line, written),
-        _ => run_answer(0, line, written),
+    match halt {
+        Halt::Refused(refusal) => run_answer(refusal.number(), line, written),
+        Halt::Sticks => run_answer(0, line, written),
     }
 }
 
@@ -82,18 +76,21 @@ pub fn run_lines(s: &[u8], from: usize, e: Ellipsoid, readings: &[f64], out: &mu
             None => return run_answer(0, line, written),
             Some(LineHead::Let(name, value)) => {
                 n += 1;
-                let r = let_value(s, value, e, &names, &mut floats, 21 * n);
-                let Evaluated::Is(kind, next) = r else {
-                    return stopped(r, line, written);
-                };
-                t[n] = give(name, kind, n, &floats, &mut names);
-                at = next;
+                match let_value(s, value, e, &names, &mut floats, 21 * n) {
+                    Err(halt) => {
+                        return stopped(halt, line, written);
+                    }
+                    Ok((kind, next)) => {
+                        t[n] = give(name, kind, n, &floats, &mut names);
+                        at = next;
+                    }
+                }
             }
             Some(LineHead::Whole(w, next)) => {
                 let j = names.place(named(w)).unwrap_or(0);
                 match whole_line(s, w, j, t[j], &floats, &mut shown, out, written) {
-                    Evaluated::Is(_, count) => written = count,
-                    r => return stopped(r, line, written),
+                    Err(halt) => return stopped(halt, line, written),
+                    Ok(count) => written = count,
                 }
                 at = next;
             }

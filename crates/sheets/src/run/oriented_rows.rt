@@ -9,7 +9,7 @@ use crate::rows::frame_rows;
 use crate::run::bracket::Bracket;
 use crate::run::floats::{angle_at, frame_at, geocentric_at, number_at, vector_at};
 use crate::run::laid::laid;
-use crate::{Evaluated, rows};
+use crate::{Evaluated, Halt, rows};
 use frames::Orientation;
 
 // v: neg, swap, bearing, elev, range.
@@ -23,7 +23,7 @@ pub fn vector_row(b: Bracket, o: Orientation, floats: &mut [f64; 2940]) -> Evalu
         words::BEARING => laid(rows::apply_bearing(b.e, vector), floats, b.top, b.end),
         words::ELEV => laid(rows::apply_elev(b.e, vector), floats, b.top, b.end),
         words::RANGE => laid(rows::apply_range(b.e, vector), floats, b.top, b.end),
-        _ => Evaluated::Sticks,
+        _ => Err(Halt::Sticks),
     }
 }
 
@@ -38,7 +38,7 @@ pub fn vectors_row(b: Bracket, o: Orientation, floats: &mut [f64; 2940]) -> Eval
             let minus = b.code == words::SUB;
             laid(rows::apply_sum(b.e, minus, v, w), floats, b.top, b.end)
         }
-        _ => Evaluated::Sticks,
+        _ => Err(Halt::Sticks),
     }
 }
 
@@ -51,7 +51,7 @@ pub fn scale_row(b: Bracket, o: Orientation, floats: &mut [f64; 2940]) -> Evalua
     if b.code == words::SCALE {
         return laid(rows::apply_scale(b.e, vector, factor), floats, b.top, b.end);
     }
-    Evaluated::Sticks
+    Err(Halt::Sticks)
 }
 
 // The axis in the words rz, ry, rx.
@@ -76,7 +76,7 @@ pub fn frame_row(b: Bracket, o: Orientation, floats: &mut [f64; 2940]) -> Evalua
             let axis = axis_in(b.code);
             laid(rows::apply_angle(b.e, axis, frame), floats, b.top, b.end)
         }
-        _ => Evaluated::Sticks,
+        _ => Err(Halt::Sticks),
     }
 }
 
@@ -94,7 +94,7 @@ pub fn turn_row(b: Bracket, o: Orientation, floats: &mut [f64; 2940]) -> Evaluat
             b.end,
         );
     }
-    Evaluated::Sticks
+    Err(Halt::Sticks)
 }
 
 // f g: to.
@@ -106,7 +106,7 @@ pub fn to_row(b: Bracket, o: Orientation, floats: &mut [f64; 2940]) -> Evaluated
     if b.code == words::TO {
         return laid(rows::apply_to(b.e, frame, position), floats, b.top, b.end);
     }
-    Evaluated::Sticks
+    Err(Halt::Sticks)
 }
 
 // f v: at.
@@ -118,7 +118,7 @@ pub fn at_row(b: Bracket, o: Orientation, floats: &mut [f64; 2940]) -> Evaluated
     if b.code == words::AT {
         return laid(rows::apply_at(b.e, frame, vector), floats, b.top, b.end);
     }
-    Evaluated::Sticks
+    Err(Halt::Sticks)
 }
 
 // f v a a a: move.
@@ -138,5 +138,5 @@ pub fn move_row(b: Bracket, o: Orientation, floats: &mut [f64; 2940]) -> Evaluat
             b.end,
         );
     }
-    Evaluated::Sticks
+    Err(Halt::Sticks)
 }

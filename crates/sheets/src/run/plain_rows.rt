@@ -10,7 +10,7 @@ use crate::rows::frame_rows;
 use crate::run::bracket::Bracket;
 use crate::run::floats::{angle_at, length_at, number_at, value_at};
 use crate::run::laid::laid;
-use crate::{Evaluated, rows};
+use crate::{Evaluated, Halt, rows};
 use frames::Orientation;
 
 // n: deg, m.
@@ -21,7 +21,7 @@ pub fn number_row(b: Bracket, floats: &mut [f64; 2940]) -> Evaluated
     match b.code {
         words::DEG => laid(rows::apply_deg(b.e, number), floats, b.top, b.end),
         words::M => laid(rows::apply_m(b.e, number), floats, b.top, b.end),
-        _ => Evaluated::Sticks,
+        _ => Err(Halt::Sticks),
     }
 }
 
@@ -50,7 +50,7 @@ pub fn lengths_row(b: Bracket, floats: &mut [f64; 2940]) -> Evaluated
             let o = orientation_in(b.code);
             laid(rows::apply_vector(b.e, o, x, y, z), floats, b.top, b.end)
         }
-        _ => Evaluated::Sticks,
+        _ => Err(Halt::Sticks),
     }
 }
 
@@ -77,7 +77,7 @@ pub fn aer_row(b: Bracket, floats: &mut [f64; 2940]) -> Evaluated
                 b.end,
             )
         }
-        _ => Evaluated::Sticks,
+        _ => Err(Halt::Sticks),
     }
 }
 
@@ -99,7 +99,7 @@ pub fn position_row(b: Bracket, kind: u8, floats: &mut [f64; 2940]) -> Evaluated
                 b.end,
             )
         }
-        _ => Evaluated::Sticks,
+        _ => Err(Halt::Sticks),
     }
 }
 
@@ -117,7 +117,7 @@ pub fn wan_row(b: Bracket, kind: u8, floats: &mut [f64; 2940]) -> Evaluated
             b.end,
         );
     }
-    Evaluated::Sticks
+    Err(Halt::Sticks)
 }
 
 // a a a P: body.
@@ -136,7 +136,7 @@ pub fn body_row(b: Bracket, kind: u8, floats: &mut [f64; 2940]) -> Evaluated
             b.end,
         );
     }
-    Evaluated::Sticks
+    Err(Halt::Sticks)
 }
 
 // P P a: look.
@@ -154,5 +154,5 @@ pub fn look_row(b: Bracket, kind: u8, floats: &mut [f64; 2940]) -> Evaluated
             b.end,
         );
     }
-    Evaluated::Sticks
+    Err(Halt::Sticks)
 }

@@ -6,13 +6,14 @@ ghost use Rattle.sheets.specs.code.run.Apart.{apart_answer};
 ghost use Rattle.sheets.specs.code.run.Wholes.{Names, TestedLine, ShownAs, TotalLine, LineDoes};
 
 use crate::reader::lines::{NameAt, WholeLine};
+use crate::refusals::Refusal;
 use crate::rows::limits::{in_limit, is_near};
-use crate::rows::value::{Slot, kind_of};
+use crate::rows::value::Slot;
 use crate::run::apart::stand_apart;
 use crate::run::readings::reading_index;
 use crate::run::shown::Shown;
 use crate::run::text::{output_line, total_line};
-use crate::{Evaluated, Value};
+use crate::{Halt, Value};
 use numbers::Length;
 
 // The code of a show's word; of another line it does not matter. The slot at the word's place is looked up by the caller, which holds the table.
@@ -25,7 +26,7 @@ pub fn named(line: WholeLine) -> u64
     name.code
 }
 
-// A value is tested, and its line written under the name that stands in `s` from `from` to `end`: the kind's code, and the bytes then written. Where refusal 7 meets it, nothing is written.
+// A value is tested, and its line written under the name that stands in `s` from `from` to `end`: the bytes then written. Where refusal 7 meets it, nothing is written.
 fn tested_line(
     s: &[u8],
     from: usize,
@@ -33,15 +34,14 @@ fn tested_line(
     v: Value,
     out: &mut [u8],
     written: usize,
-) -> Evaluated
+) -> Result<usize, Halt>
     ensures { TestedLine s.now from end v out.old written result out.new }
 {
     if in_limit(v) {
-        let kind = kind_of(v);
         let n = output_line(s, from, end, v, out, written);
-        return Evaluated::Is(kind, n);
+        return Ok(n);
     }
-    Evaluated::Stops(7)
+    Err(Halt::Refused(Refusal::Limit))
 }
 
 // A show of a value, which stands at a place among the names: the place of a g is kept, and a length goes into the sum.
@@ -53,16 +53,13 @@ fn show_value(
     shown: &mut Shown,
     out: &mut [u8],
     written: usize,
-) -> Evaluated
+) -> Result<usize, Halt>
     requires { place ≤ 95 }
     ensures { ShownAs s.now name (some v) place shown.old out.old written result shown.new out.new }
 {
-    let r = tested_line(s, name.from, name.end, v, out, written);
-    let Evaluated::Is(kind, n) = r else {
-        return r;
-    };
+    let n = tested_line(s, name.from, name.end, v, out, written)?;
     shown.keep(place, v);
-    Evaluated::Is(kind, n)
+    Ok(n)
 }
 
 // A show of a word, by its place j and the slot x there: of what the slot holds, or of a reading, whose place is 0.
@@ -75,13 +72,13 @@ fn show(
     shown: &mut Shown,
     out: &mut [u8],
     written: usize,
-) -> Evaluated
+) -> Result<usize, Halt>
     requires { j ≤ 95 }
     ensures { ShownAs s.now name (found_at x.value floats.now name.code j) j shown.old out.old written result shown.new out.new }
 {
     let v = if j == 0 {
         let Some(i) = reading_index(name.code) else {
-            return Evaluated::Sticks;
+            return Err(Halt::Sticks);
         };
         Value::Number(floats[i])
     } else {
@@ -91,27 +88,32 @@ fn show(
 }
 
 // A total: the sum of the lengths shown, tested as an l.
-fn total(sum: Length, out: &mut [u8], written: usize) -> Evaluated
+fn total(sum: Length, out: &mut [u8], written: usize) -> Result<usize, Halt>
     ensures { TotalLine sum out.old written result out.new }
 {
     if is_near(sum.0) {
         let n = total_line(sum, out, written);
-        return Evaluated::Is(2, n);
+        return Ok(n);
     }
-    Evaluated::Stops(7)
+    Err(Halt::Refused(Refusal::Limit))
 }
 
 // An apart: its number is tested as an n, and then what was shown.
-fn apart(least: f64, floats: &[f64; 2940], shown: &[bool; 96], written: usize) -> Evaluated
+fn apart(
+    least: f64,
+    floats: &[f64; 2940],
+    shown: &[bool; 96],
+    written: usize,
+) -> Result<usize, Halt>
     ensures { result ≡ apart_answer least floats.now shown.now written }
 {
     if is_near(least) {
         if stand_apart(least, floats, shown) {
-            return Evaluated::Is(254, written);
+            return Ok(written);
         }
-        return Evaluated::Stops(9);
+        return Err(Halt::Refused(Refusal::Apart));
     }
-    Evaluated::Stops(7)
+    Err(Halt::Refused(Refusal::Limit))
 }
 
 // A line, where its word stands at the place j and x is the slot there; where it names none both are left aside.
@@ -124,7 +126,7 @@ pub fn whole_line(
     shown: &mut Shown,
     out: &mut [u8],
     written: usize,
-) -> Evaluated
+) -> Result<usize, Halt>
     requires { j ≤ 95 }
     ensures { LineDoes s.now line j x.value floats.now shown.old out.old written result shown.new out.new }
 {

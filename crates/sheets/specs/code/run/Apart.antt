@@ -1,11 +1,12 @@
 -- How the run tells whether the names shown stand apart: by the places kept, each with those below it.
 -- No part of what must be believed: they only tie the code to the machine.
-use Rattle.std.specs.Prelude.{ℕ, zero, suc, ◌*◌, Bool, true, false, ◌&&◌, List, get_or, Float}
+use Rattle.std.specs.Prelude.{ℕ, zero, suc, ◌*◌, Bool, true, false, ◌&&◌, List, get_or, Float, Result, Ok, Err}
 use Rattle.std.specs.Float.Ieee as Ieee
 use Rattle.numbers.specs.Vec.{norm, vec_sub}
 use Rattle.numbers.specs.declared.Vec3.{Vec3}
 use Rattle.frames.specs.Positions.{geocentric_as_metres}
-use Rattle.sheets.specs.declared.Evaluated.{Evaluated}
+use Rattle.sheets.specs.declared.refusals.Refusal.{Refusal as Code}
+use Rattle.sheets.specs.declared.Halt.{Halt}
 use Rattle.sheets.specs.Table.{when}
 use Rattle.sheets.specs.Limits.{near}
 use Rattle.sheets.specs.code.run.Floats.{position_at}
@@ -28,5 +29,5 @@ apart_below least f js zero = true
 apart_below least f js (suc j) = when (get_or js j false) (clear_below least (metres_at f j) f js j) true && apart_below least f js j
 
 -- an apart's answer: refusal 7, then refusal 9
-unfoldable pub apart_answer : Float → List Float → List Bool → ℕ → Evaluated
-apart_answer least f js written = when (near least) (when (apart_below least f js 96) (Evaluated.Is 254 written) (Evaluated.Stops 9)) (Evaluated.Stops 7)
+unfoldable pub apart_answer : Float → List Float → List Bool → ℕ → Result ℕ Halt
+apart_answer least f js written = when (near least) (when (apart_below least f js 96) (Ok written) (Err (Halt.Refused Code.Apart))) (Err (Halt.Refused Code.Limit))

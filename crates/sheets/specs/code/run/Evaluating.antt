@@ -9,7 +9,8 @@ use Rattle.sheets.specs.declared.Value.{Value}
 use Rattle.sheets.specs.declared.Unapplied.{Unapplied}
 use Rattle.sheets.specs.declared.Unapplied.TheVariants.{NoRow, Centre}
 use Rattle.sheets.specs.declared.rows.args.Axis.{Axis}
-use Rattle.sheets.specs.declared.Evaluated.{Evaluated}
+use Rattle.sheets.specs.declared.refusals.Refusal.{Refusal as Code}
+use Rattle.sheets.specs.declared.Halt.{Halt}
 use Rattle.sheets.specs.Text.{Word}
 use Rattle.sheets.specs.Trees.{Expr, Exprs}
 use Rattle.sheets.specs.Grammar.{IsWord}
@@ -18,8 +19,9 @@ use Rattle.sheets.specs.Limits.{in_limit}
 use Rattle.sheets.specs.Table.{when, table}
 use Rattle.sheets.specs.Lookup.{find}
 use Rattle.sheets.specs.Names.{Known, lookup}
-use Rattle.sheets.specs.Refusals.{centre, stop, refusal_number}
+use Rattle.sheets.specs.Refusals.{centre, stop}
 use Rattle.sheets.specs.Machine.{Out, goes, stops, sticks, then, meet, result, apply_row, eval, evals}
+use Rattle.sheets.specs.code.Refusals.{code_for}
 use Rattle.sheets.specs.code.reader.Codes.{code_of}
 use Rattle.sheets.specs.code.reader.Reader.{got, read_args, read_leaf, read_expr}
 use Rattle.sheets.specs.code.rows.Applied.{vector_word, aer_word, axis_word}
@@ -28,11 +30,15 @@ use Rattle.sheets.specs.code.run.Floats.{value_at, values_at, Lies, KeptBelow}
 use Rattle.sheets.specs.code.run.Known.{Ready}
 use Rattle.sheets.specs.declared.check.names.Names.{Names}
 
+-- a kind's code and a place, or why the machine halts
+abbrev pub Evaluated : Type 0
+Evaluated = Result (ℕ × ℕ) Halt
+
 -- the code of the value's kind and the place after the expression, or the refusal that stops the machine
 unfoldable pub evaluated : Out Value → ℕ → Evaluated
-evaluated (goes fs x) n = Evaluated.Is (kind_code (kind_of x)) n
-evaluated (stops fs r) n = Evaluated.Stops (refusal_number (stop r))
-evaluated (sticks fs) n = Evaluated.Sticks
+evaluated (goes fs x) n = Ok (kind_code (kind_of x), n)
+evaluated (stops fs r) n = Err (Halt.Refused (code_for (stop r)))
+evaluated (sticks fs) n = Err Halt.Sticks
 
 -- the value, where there is one, lies at a place
 unfoldable pub LiesOf : Out Value → List Float → ℕ → Type 0
@@ -48,7 +54,7 @@ pub record Answers (o : Out Value) (n top : ℕ) (f : List Float) (r : Evaluated
 
 -- the test of refusal 7
 abbrev pub tested_at : ℕ → List Float → ℕ → ℕ → Evaluated
-tested_at k f at n = when (in_limit (value_at (kind_at k) f at)) (Evaluated.Is k n) (Evaluated.Stops 7)
+tested_at k f at n = when (in_limit (value_at (kind_at k) f at)) (Ok (k, n)) (Err (Halt.Refused Code.Limit))
 
 -- ---- a row
 
@@ -59,9 +65,9 @@ out_of (Err NoRow) = sticks []
 out_of (Err Centre) = stops [] centre
 
 -- where there is no value: the machine sticks, or refusal 8 stops it
-abbrev pub unapplied : Unapplied → Evaluated
-unapplied NoRow = Evaluated.Sticks
-unapplied Centre = Evaluated.Stops (refusal_number (stop centre))
+abbrev pub unapplied : Unapplied → Halt
+unapplied NoRow = Halt.Sticks
+unapplied Centre = Halt.Refused (code_for (stop centre))
 
 -- q answers a row's answer
 pub record LaidAs (r : Result Value Unapplied) (f : List Float) (at n : ℕ) (q : Evaluated) (f' : List Float) : Type 0 where

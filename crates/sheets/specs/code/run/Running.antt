@@ -6,20 +6,22 @@ use Rattle.frames.specs.declared.Ellipsoid.{Ellipsoid}
 use Rattle.sheets.specs.declared.Value.{Value}
 use Rattle.sheets.specs.declared.rows.value.Slot.{Slot}
 use Rattle.sheets.specs.declared.answers.RunAnswer.{RunAnswer}
-use Rattle.sheets.specs.declared.Evaluated.{Evaluated}
+use Rattle.sheets.specs.declared.Halt.{Halt}
 use Rattle.sheets.specs.Text.{Word}
 use Rattle.sheets.specs.Trees.{Expr, Line, let_line, numbered}
 use Rattle.sheets.specs.Names.{Known, reading_words}
 use Rattle.sheets.specs.Machine.{eval, State, steps, readings}
 use Rattle.sheets.specs.Answers.{Tells}
 use Rattle.sheets.specs.Claim.{Unstuck}
+use Rattle.sheets.specs.Refusals.{refusal_number}
+use Rattle.sheets.specs.code.Refusals.{refusal_of}
 use Rattle.sheets.specs.code.reader.Reader.{got, let_word, rest, formed, read_lines}
 use Rattle.sheets.specs.code.rows.KindCodes.{kind_at}
 use Rattle.sheets.specs.code.run.Floats.{float_at, value_at}
 use Rattle.sheets.specs.code.run.Known.{Ready}
 use Rattle.sheets.specs.declared.check.names.Names.{Names}
 use Rattle.sheets.specs.code.check.Newest.{with_name}
-use Rattle.sheets.specs.code.run.Evaluating.{Answers}
+use Rattle.sheets.specs.code.run.Evaluating.{Evaluated, Answers}
 
 -- the readings stand first among the floats, 0 for one that is lacking, where there were only zeros
 pub record WithReadings (rs f f' : List Float) : Type 0 where
@@ -37,10 +39,9 @@ pub record GivenAt (word kind place : ℕ) (f : List Float) (names : Names) (x :
   pub names_are : names' ≡ with_name names word kind place
 
 -- the answer where a line does not go on
-unfoldable pub stopped_at : Evaluated → ℕ → ℕ → RunAnswer
-stopped_at (Evaluated.Is k n) i m = record { number = 0; line = i; written = m }
-stopped_at (Evaluated.Stops k) i m = record { number = k; line = i; written = m }
-stopped_at Evaluated.Sticks i m = record { number = 0; line = i; written = m }
+unfoldable pub stopped_at : Halt → ℕ → ℕ → RunAnswer
+stopped_at (Halt.Refused r) i m = record { number = refusal_number (refusal_of r); line = i; written = m }
+stopped_at Halt.Sticks i m = record { number = 0; line = i; written = m }
 
 -- ---- the lines
 

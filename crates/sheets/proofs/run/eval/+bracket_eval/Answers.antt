@@ -1,10 +1,12 @@
 -- `sheets::run::eval::bracket` and `sheets::run::eval::eval`, which call each other, meet their contracts. Assumes nothing.
 use native.Mathlib.Omega.{arith}
-use mathlib.Core.Path.{refl, sym, ◌∙◌}
+use mathlib.Core.Path.{refl, sym, ap, ◌∙◌}
+use Rattle.std.specs.Prelude.{Err}
+use Rattle.std.proofs.lemmas.Result.{err_from_is_err_and}
 use Rattle.sheets.proofs.reader.ExprSteps.{expr-deep, expr-no-word}
 use Rattle.sheets.proofs.check.KindSteps.{grown}
 use Rattle.sheets.proofs.run.EvalSteps.{evals-bad, evals-leaf}
-use Rattle.sheets.proofs.run.BracketSteps.{evals-form, bracket-closed, bracket-sixth, bracket-other, bracket-stopped, bracket-stuck, bracket-more, one-fewer}
+use Rattle.sheets.proofs.run.BracketSteps.{evals-form, bracket-closed, bracket-sixth, bracket-other, bracket-halted, bracket-more, one-fewer}
 use Rattle.sheets.proofs.run.eval.+bracket_eval.Goals as goal
 use Rattle.sheets.proofs.run.eval.+bracket_eval.Goals.{bracket-else-loop-n-test, bracket-then-loop-n-test+then-byte-ne32}
 
@@ -44,29 +46,27 @@ bracket-overflow_add-room t c = omega (arith, c.requires, c.loop-n-test.true)
 pub bracket-overflow_add-i : goal.bracket-overflow_add-i
 bracket-overflow_add-i t c = omega (arith, c.byte.ensures.inside, c.if-byte-ne32.false)
 
-pub bracket-eval-r-requires : goal.bracket-eval-r-requires
-bracket-eval-r-requires t c = (omega arith, omega (arith, c.requires, c.loop-n-test.true))
+pub bracket-eval-requires : goal.bracket-eval-requires
+bracket-eval-requires t c = (omega arith, omega (arith, c.requires, c.loop-n-test.true))
 
-pub bracket-returns-in-Sticks : goal.bracket-returns-in-Sticks
-bracket-returns-in-Sticks t c = c.loop-n.invariant.2 _ _ (bracket-stuck _ _ _ c.byte.ensures.is _ _ _ _ _ _ _ _ c.if-byte-ne32.false (omega (arith, c.loop-n-test.true)) _ (omega (arith, c.loop-n-test.true)) _ _ c.eval-r.ensures c.in-Sticks.is)
-
-pub bracket-returns-in-Stops : goal.bracket-returns-in-Stops
-bracket-returns-in-Stops t c = c.loop-n.invariant.2 _ _ (bracket-stopped _ _ _ c.byte.ensures.is _ _ _ _ _ _ _ _ c.if-byte-ne32.false (omega (arith, c.loop-n-test.true)) _ (omega (arith, c.loop-n-test.true)) _ _ c.eval-r.ensures _ c.in-Stops.is)
+pub bracket-returns-in_err-kind : goal.bracket-returns-in_err-kind
+bracket-returns-in_err-kind t c =
+    let p = err_from_is_err_and c.from_residual.result c.from_residual.ensures.1 in rw (p.1 ∙ ap Err p.2) (c.loop-n.invariant.2 _ _ (bracket-halted _ _ _ c.byte.ensures.is _ _ _ _ _ _ _ _ c.if-byte-ne32.false (omega (arith, c.loop-n-test.true)) _ (omega (arith, c.loop-n-test.true)) _ _ c.eval.ensures _ c.in_err-kind.was))
 
 pub bracket-overflow_mul-key : goal.bracket-overflow_mul-key
-bracket-overflow_mul-key t c = omega (arith, grown _ _ c.in-Is.kind c.loop-n-test.true c.loop-n.invariant.1 (omega arith))
+bracket-overflow_mul-key t c = omega (arith, grown _ _ c.in_ok-kind.kind c.loop-n-test.true c.loop-n.invariant.1 (omega arith))
 
 pub bracket-overflow_add-key : goal.bracket-overflow_add-key
-bracket-overflow_add-key t c = omega (arith, grown _ _ c.in-Is.kind c.loop-n-test.true c.loop-n.invariant.1 (omega arith))
+bracket-overflow_add-key t c = omega (arith, grown _ _ c.in_ok-kind.kind c.loop-n-test.true c.loop-n.invariant.1 (omega arith))
 
-pub bracket-overflow_add-key-in-Is : goal.bracket-overflow_add-key-in-Is
-bracket-overflow_add-key-in-Is t c = omega (arith, grown _ _ c.in-Is.kind c.loop-n-test.true c.loop-n.invariant.1 (omega arith))
+pub bracket-overflow_add-key-in-loop-n : goal.bracket-overflow_add-key-in-loop-n
+bracket-overflow_add-key-in-loop-n t c = omega (arith, grown _ _ c.in_ok-kind.kind c.loop-n-test.true c.loop-n.invariant.1 (omega arith))
 
 pub bracket-loop-n-preserved : goal.bracket-loop-n-preserved
 bracket-loop-n-preserved t c = (
   omega (arith, c.loop-n-test.true),
-  (grown _ _ c.in-Is.kind c.loop-n-test.true c.loop-n.invariant.1 (omega arith)).0,
-  λ q g h. c.loop-n.invariant.2 q g (bracket-more _ _ _ c.byte.ensures.is _ _ _ _ _ _ _ _ c.if-byte-ne32.false (omega (arith, c.loop-n-test.true)) _ (omega (arith, c.loop-n-test.true)) _ _ c.eval-r.ensures _ _ c.in-Is.is _ refl q g (one-fewer _ c.loop-n-test.true _ _ _ _ _ _ _ _ _ _ _ h)),
+  (grown _ _ c.in_ok-kind.kind c.loop-n-test.true c.loop-n.invariant.1 (omega arith)).0,
+  λ q g h. c.loop-n.invariant.2 q g (bracket-more _ _ _ c.byte.ensures.is _ _ _ _ _ _ _ _ c.if-byte-ne32.false (omega (arith, c.loop-n-test.true)) _ (omega (arith, c.loop-n-test.true)) _ _ c.eval.ensures _ _ c.in_ok-kind.was _ refl q g (one-fewer _ c.loop-n-test.true _ _ _ _ _ _ _ _ _ _ _ h)),
 )
 
 pub bracket-overflow_add-i-then-byte-eq41 : goal.bracket-overflow_add-i-then-byte-eq41

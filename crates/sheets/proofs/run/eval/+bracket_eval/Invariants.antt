@@ -1,8 +1,7 @@
 -- What goes down from call to call of `sheets::run::eval::bracket` and `sheets::run::eval::eval`, and the loop of the first.
 use Rattle.std.proofs.Common.{◌+◌, ◌-◌, ◌*◌, ◌^◌, ◌<◌, ◌≤◌, List}
 use lib.Ieee.{Float}
-use Rattle.sheets.specs.code.run.Evaluating.{BracketWith}
-use Rattle.sheets.specs.declared.Evaluated.{Evaluated}
+use Rattle.sheets.specs.code.run.Evaluating.{Evaluated, BracketWith}
 use Rattle.sheets.proofs.run.eval.+bracket_eval.Given as goal
 
 abbrev pub decreases-eval : goal.decreases-eval

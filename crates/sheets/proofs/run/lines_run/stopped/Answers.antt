@@ -1,10 +1,11 @@
 -- `sheets::run::lines_run::stopped` meets its contract. Assumes nothing.
-use Rattle.sheets.proofs.run.RunParts.{stopped_by, stopped-else}
-use borrow.Enum.Refused.{opened}
+use Rattle.sheets.specs.code.run.Running.{stopped_at}
 use Rattle.sheets.proofs.run.lines_run.stopped.Goals as goal
 
-pub returns-in-Stops : goal.returns-in-Stops
-returns-in-Stops c = stopped_by _ _ _ _ _ c.in-Stops.is c.run_answer.ensures
+pub returns-in-Refused : goal.returns-in-Refused
+unfolding stopped_at
+returns-in-Refused c = rw (c.in-Refused.is, ← c.number.ensures) c.run_answer.ensures
 
-pub returns-in_default : goal.returns-in_default
-returns-in_default c = stopped-else _ _ _ _ (opened c.in_default.in_default-own.keys2) c.run_answer-in_default.ensures
+pub returns-in-Sticks : goal.returns-in-Sticks
+unfolding stopped_at
+returns-in-Sticks c = rw c.in-Sticks.is c.run_answer-in-Sticks.ensures

@@ -1,10 +1,13 @@
 -- `sheets::run::whole::show_value` meets its contract. Assumes nothing.
+use mathlib.Core.Path.{ap, ◌∙◌}
+use Rattle.std.specs.Prelude.{Err}
+use Rattle.std.proofs.lemmas.Result.{err_from_is_err_and}
 use Rattle.sheets.proofs.run.WholeParts.{show-out, show-in}
-use borrow.Enum.Refused.{opened}
 use Rattle.sheets.proofs.run.whole.show_value.Goals as goal
 
-pub returns-in_default : goal.returns-in_default
-returns-in_default c = show-out _ _ _ _ _ _ _ _ _ c.tested_line-r.ensures (opened c.in_default.in_default-own.keys2)
+pub returns-in_err-n : goal.returns-in_err-n
+returns-in_err-n c =
+    let p = err_from_is_err_and c.from_residual.result c.from_residual.ensures.1 in rw (p.1 ∙ ap Err p.2) (show-out _ _ _ _ _ _ _ _ _ c.tested_line.ensures _ c.in_err-n.was)
 
 pub returns : goal.returns
-returns c = show-in _ _ _ _ _ _ _ _ _ c.tested_line-r.ensures _ _ c.in-Is.is _ c.keep.ensures.places c.keep.ensures.sum
+returns c = show-in _ _ _ _ _ _ _ _ _ c.tested_line.ensures _ c.in_ok-n.was _ c.keep.ensures.places c.keep.ensures.sum
