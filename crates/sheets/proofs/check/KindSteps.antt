@@ -15,7 +15,7 @@ use Rattle.sheets.specs.Kinds.{Kind, kind_code}
 use Rattle.sheets.specs.Table.{table}
 use Rattle.sheets.specs.Lookup.{find_kind}
 use Rattle.sheets.specs.Names.{Known, lookup}
-use Rattle.sheets.specs.code.rows.KindCodes.{key_from, kind_or_255, RowKind}
+use Rattle.sheets.specs.code.rows.KindCodes.{code_if, key_from, RowKind}
 use Rattle.sheets.specs.Refusals.{Fault, kind, fault, Checked, fine, bad, thenᶜ, known?}
 use Rattle.sheets.specs.Check.{kind_of_expr, kinds_of_exprs}
 use Rattle.sheets.specs.declared.reader.num.Numeral.{Numeral}
@@ -26,23 +26,13 @@ use Rattle.sheets.proofs.reader.Viewed.{coded-got}
 use Rattle.sheets.proofs.reader.Inverse.{not-read, arg-read, form-read}
 use Rattle.sheets.proofs.reader.Spans.{holds_at}
 use Rattle.sheets.proofs.reader.ExprLaws.{ExprAt, expr-sound}
-use Rattle.sheets.proofs.rows.KindRowLaws.{kind-small, row-kind}
+use Rattle.sheets.proofs.rows.KindRowLaws.{row-kind}
 use Rattle.sheets.proofs.check.PassedLaws.{kind-newest}
 use Rattle.sheets.specs.declared.check.names.Names.{Names}
-use Rattle.sheets.specs.code.check.Walking.{code_if, kind_from, kind_found, Standing, kind_said, ExprHas, key_said, ArgsHave}
+use Rattle.sheets.specs.code.check.Walking.{kind_from, kind_found, Standing, kind_said, ExprHas, key_said, ArgsHave}
 use Rattle.std.specs.Prelude.{Option, Some, None, Result, Ok, Err}
 use Rattle.sheets.specs.declared.refusals.Refusal.{Refusal as Code}
 use Rattle.sheets.specs.code.Refusals.{code_for}
-
--- ---- what 255 says
-
-none_found : (o : Maybe Kind) (f : ℕ) → f ≡ kind_or_255 o → f ≡ 255 → o ≡ none
-none_found none f e h = refl
-none_found (some k) f e h = absurd (omega (arith, kind-small k))
-
-some-found : (o : Maybe Kind) (f : ℕ) → f ≡ kind_or_255 o → (f ≡ 255 → ⊥) → (k : Kind) × (o ≡ some k) × (f ≡ kind_code k)
-some-found none f e h = absurd (h e)
-some-found (some k) f e h = (k, refl, e)
 
 -- ---- what a kind's code says, where there is one
 
@@ -61,13 +51,13 @@ found-kind names ps (passed, st) code f hf w hw e =
     hf ∙ kind-newest names passed st.from code ∙ ap (kind_from names passed) e ∙ st.is w hw
 
 -- a fault where there is no kind
-said-none : (x : Fault) (o : Maybe Kind) (f n : ℕ) → f ≡ kind_or_255 o → f ≡ 255 → Err (code_for (fault x)) ≡ kind_said (known? x o) n
+said-none : (x : Fault) (o : Maybe Kind) (f : Option ℕ) (n : ℕ) → f ≡ code_if o → f ≡ None → Err (code_for (fault x)) ≡ kind_said (known? x o) n
 unfolding kind_said
-said-none x o f n e h = rw (none_found o f e h) refl
+said-none x o f n e h = rw (none-if o f e h) refl
 
-said-some : (x : Fault) (o : Maybe Kind) (f n : ℕ) → f ≡ kind_or_255 o → (f ≡ 255 → ⊥) → Ok (f, n) ≡ kind_said (known? x o) n
+said-some : (x : Fault) (o : Maybe Kind) (f : Option ℕ) (k n : ℕ) → f ≡ code_if o → f ≡ Some k → Ok (k, n) ≡ kind_said (known? x o) n
 unfolding kind_said
-said-some x o f n e h = let (k, eo, ek) = some-found o f e h in rw eo (ap (λ i. Ok (i, n)) ek)
+said-some x o f k n e h = let (j, eo, ek) = some-if o f e k h in rw eo (ap (λ i. Ok (i, n)) ek)
 
 -- ---- an expression
 
@@ -151,8 +141,8 @@ module _ (s : List ℕ) (at b : ℕ) (eb : b ≡ get_or s at 0) (depth : ℕ) (p
         go w hw ec (bad f) n p = let i : why ≡ code_for (fault f) = cc in ap (λ k. Err k) i
 
     -- f is the kind code of the row
-    module _ (key end : ℕ) (eg : g ≡ Ok (key, end)) (f : ℕ) (hf : RowKind code key f) where
-      row_is : (w : Word) → IsWord w → code ≡ code_of w → (ks : List Kind) (n : ℕ) → g ≡ key_said 0 (fine ks) n → (f ≡ kind_or_255 (find_kind table w ks)) × (end ≡ n)
+    module _ (key end : ℕ) (eg : g ≡ Ok (key, end)) (f : Option ℕ) (hf : RowKind code key f) where
+      row_is : (w : Word) → IsWord w → code ≡ code_of w → (ks : List Kind) (n : ℕ) → g ≡ key_said 0 (fine ks) n → (f ≡ code_if (find_kind table w ks)) × (end ≡ n)
       unfolding key_said
       row_is w hw ec ks n p =
           let same = same-told (sym p ∙ eg) in
@@ -162,30 +152,30 @@ module _ (s : List ℕ) (at b : ℕ) (eb : b ≡ get_or s at 0) (depth : ℕ) (p
       unfolding key_said
       not-bad x n p = let z : ◌≡◌ {A = ℕ} 0 1 = cc in absurd (omega arith)
 
-      pub form-no-row : f ≡ 255 → ExprHas s at depth ps (Err Code.Kind)
+      pub form-no-row : f ≡ None → ExprHas s at depth ps (Err Code.Kind)
       form-no-row e = form-has _ go (λ k n e. not_is Code.Kind k n e)
         where
           go : (w : Word) → IsWord w → code ≡ code_of w → (o : Checked (List Kind)) (n : ℕ) → g ≡ key_said 0 o n → Err Code.Kind ≡ kind_said (thenᶜ o (λ js. known? kind (find_kind table w js))) n
           go w hw ec (fine ks) n p = said-none kind (find_kind table w ks) f n (row_is w hw ec ks n p).0 e
           go w hw ec (bad x) n p = not-bad x n p
 
-      all_read : (k n : ℕ) → told f end ≡ told k n → (x : Expr) × (read_expr depth s at ≡ got x n)
-      all_read k n e =
+      all_read : (i k n : ℕ) → told i end ≡ told k n → (x : Expr) × (read_expr depth s at ≡ got x n)
+      all_read i k n e =
           let (xs, ea) = hg.read key end eg in
           let (w, ew, ek) = coded-got (read_word s (at + 1)) r er code m hr in
-          let i : end ≡ n = (same-told e).1 in (
+          let j : end ≡ n = (same-told e).1 in (
             form_expr w xs,
             expr-step s at b eb depth h d
                 ∙ then-got (read_word s (at + 1)) (λ w n. read_args (read_expr (depth - 1) s) 5 s n then (λ xs m. got (form_expr w xs) m)) w m ew
                 ∙ then-got (read_args (read_expr (depth - 1) s) 5 s m) (λ xs m. got (form_expr w xs) m) xs end ea
-                ∙ ap (got (form_expr w xs)) i,
+                ∙ ap (got (form_expr w xs)) j,
           )
 
-      pub form-row : (f ≡ 255 → ⊥) → ExprHas s at depth ps (Ok (f, end))
-      form-row e = form-has _ go all_read
+      pub form-row : (i : ℕ) → f ≡ Some i → ExprHas s at depth ps (Ok (i, end))
+      form-row i e = form-has _ go (all_read i)
         where
-          go : (w : Word) → IsWord w → code ≡ code_of w → (o : Checked (List Kind)) (n : ℕ) → g ≡ key_said 0 o n → Ok (f, end) ≡ kind_said (thenᶜ o (λ js. known? kind (find_kind table w js))) n
-          go w hw ec (fine ks) n p = let (ef, en) = row_is w hw ec ks n p in ap (λ m. Ok (f, m)) en ∙ said-some kind (find_kind table w ks) f n ef e
+          go : (w : Word) → IsWord w → code ≡ code_of w → (o : Checked (List Kind)) (n : ℕ) → g ≡ key_said 0 o n → Ok (i, end) ≡ kind_said (thenᶜ o (λ js. known? kind (find_kind table w js))) n
+          go w hw ec (fine ks) n p = let (ef, en) = row_is w hw ec ks n p in ap (λ m. Ok (i, m)) en ∙ said-some kind (find_kind table w ks) f i n ef e
           go w hw ec (bad x) n p = not-bad x n p
 
 -- ---- the arguments

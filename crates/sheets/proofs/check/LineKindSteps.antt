@@ -19,7 +19,7 @@ use Rattle.sheets.specs.Table.{table, when}
 use Rattle.sheets.specs.Lookup.{same_word, opens}
 use Rattle.sheets.specs.Names.{Known, or_else as or_later, lookup, knows, barred, given_on}
 use Rattle.sheets.specs.Scopes.{Scope, give_if}
-use Rattle.sheets.specs.code.rows.KindCodes.{row_codes}
+use Rattle.sheets.specs.code.rows.KindCodes.{code_if, row_codes}
 use Rattle.sheets.specs.Refusals.{fault, Checked, fine, bad, thenᶜ}
 use Rattle.sheets.specs.Check.{kind_of_expr, lineᶜ}
 use Rattle.sheets.specs.declared.reader.lines.NameAt.{NameAt}
@@ -29,7 +29,7 @@ use Rattle.sheets.proofs.reader.Inverse.{then-read, closing-read, limit-read}
 use Rattle.sheets.proofs.reader.PieceSteps.{closing-got}
 use Rattle.sheets.proofs.reader.Slices.{word-is}
 use Rattle.sheets.specs.declared.check.names.Names.{Names}
-use Rattle.sheets.specs.code.check.Walking.{code_if, kind_found, Standing, kind_said, ExprHas, line_word, line_said, LineHas, WordHas, WholeHas, short_kind, BarredWord}
+use Rattle.sheets.specs.code.check.Walking.{kind_found, Standing, kind_said, ExprHas, line_word, line_said, LineHas, WordHas, WholeHas, short_kind, BarredWord}
 use Rattle.std.specs.Prelude.{is_some, Option, Some, None, Result, Ok, Err}
 use Rattle.sheets.specs.declared.refusals.Refusal.{Refusal as Code}
 use Rattle.sheets.specs.code.Refusals.{code_for}

@@ -27,7 +27,8 @@ use Rattle.sheets.proofs.rows.KindRowLaws.{words-agree, every, of-every}
 use Rattle.sheets.specs.code.check.Newest.{with_name, Newest, place_from}
 use Rattle.sheets.specs.declared.check.names.Names.{Names}
 use Rattle.sheets.proofs.check.NewestLaws.{newest-more, search_is, from-newest, by_place}
-use Rattle.sheets.specs.code.check.Walking.{code_if, reading_kind, kind_from, kind_found, Stands}
+use Rattle.sheets.specs.code.rows.KindCodes.{code_if}
+use Rattle.sheets.specs.code.check.Walking.{reading_kind, kind_from, kind_found, Stands}
 
 -- ---- the readings
 

@@ -4,11 +4,15 @@ use native.Mathlib.Omega.{arith}
 use mathlib.Core.Path.{◌≡◌, refl, sym, ap, ◌∙◌, subst}
 use mathlib.Core.Bool.{Bool, true, false, ◌&&◌, ◌||◌, not}
 use mathlib.Core.List.{List, [], ◌∷◌, ◌++◌, append-nil}
-use mathlib.Core.Option.{Option, some}
+use mathlib.Core.Option.{Option as Maybe, some}
 use lib.Dec.{T, eqb, eqb→eq, eqb_refl}
 use mir.Facts.{and_yes, yes_and}
 use mir.Val.{has_key}
 use types.Run.{OneOf, hit, miss}
+use Rattle.std.specs.Prelude.{Option, Some, None}
+use Rattle.std.specs.Option.{option_or}
+use Rattle.std.specs.Bool.{then_some}
+use Rattle.std.specs.List.{list_any}
 use Rattle.frames.specs.declared.Orientation.TheVariants.{Enu, Ned, Body, Wan}
 use Rattle.sheets.specs.Text.{Word}
 use Rattle.sheets.specs.Grammar.{IsWord}
@@ -16,7 +20,7 @@ use Rattle.sheets.specs.code.reader.Codes.{code_of}
 use Rattle.sheets.specs.Kinds.{Kind, number, angle, len, geocentric, geodetic, vector, frame, place, kind_code, same_kind, same_kinds}
 use Rattle.sheets.specs.Table.{Row, when, table}
 use Rattle.sheets.specs.Lookup.{same_word, opens, KindRow, kind_rows, search, find_kind}
-use Rattle.sheets.specs.code.rows.KindCodes.{kind_at, key_from, key_of, kind_or_255, search_num, RowKind, Missed, row_codes}
+use Rattle.sheets.specs.code.rows.KindCodes.{kind_at, key_from, key_of, code_if, row_num, search_num, RowKind, Missed, row_codes}
 use Rattle.sheets.proofs.reader.CodeLaws.{code_same}
 use Rattle.sheets.proofs.check.KindExact.{same_word_lem, same-kinds}
 use Rattle.sheets.proofs.rows.WordLaws.{spelt, spelt_is, missed-none}
@@ -37,10 +41,6 @@ kind-at (frame Enu) = (refl, omega arith)
 kind-at (frame Ned) = (refl, omega arith)
 kind-at (frame Body) = (refl, omega arith)
 kind-at (frame Wan) = (refl, omega arith)
-
--- and so it is not 255
-pub kind-small : (k : Kind) → kind_code k < 13
-kind-small k = (kind-at k).1
 
 -- the key, its last kind first
 abbrev back_key : List Kind → ℕ
@@ -121,14 +121,14 @@ abbrev all_spelt : List KindRow → Bool
 all_spelt [] = true
 all_spelt (p ∷ ps) = spelt p.word && all_spelt ps
 
-by-numbers : (ps : List KindRow) → T (all_spelt ps) → (w : Word) → IsWord w → (ks : List Kind) → search_num ps (code_of w) (key_of ks) ≡ kind_or_255 (search ps w ks)
+by-numbers : (ps : List KindRow) → T (all_spelt ps) → (w : Word) → IsWord w → (ks : List Kind) → search_num ps (code_of w) (key_of ks) ≡ code_if (search ps w ks)
 unfolding search_num search
 by-numbers [] t w hw ks = refl
 by-numbers (p ∷ ps) t w hw ks =
     let h = and_yes (spelt p.word) (all_spelt ps) t in
     rw (words-agree p.word w (spelt_is p.word h.0) hw, keys-agree p.takes ks) (go (same_word w p.word && same_kinds p.takes ks) _ _ (by-numbers ps h.1 w hw ks))
   where
-    go : (b : Bool) (m : ℕ) (o : Option Kind) → m ≡ kind_or_255 o → when b (kind_code p.gives) m ≡ kind_or_255 (when b (some p.gives) o)
+    go : (b : Bool) (m : Option ℕ) (o : Maybe Kind) → m ≡ code_if o → when b (Some (kind_code p.gives)) m ≡ code_if (when b (some p.gives) o)
     go true m o e = refl
     go false m o e = e
 
@@ -137,12 +137,30 @@ unfolding kind_rows table
 all-spelt = tt
 
 -- for a word and kinds it is the table's
-pub row-kind : (c k r : ℕ) → RowKind c k r → (w : Word) → IsWord w → c ≡ code_of w → (ks : List Kind) → key_of ks ≡ k → r ≡ kind_or_255 (find_kind table w ks)
+pub row-kind : (c k : ℕ) (r : Option ℕ) → RowKind c k r → (w : Word) → IsWord w → c ≡ code_of w → (ks : List Kind) → key_of ks ≡ k → r ≡ code_if (find_kind table w ks)
 unfolding find_kind
 row-kind c k r h w hw e ks q = h.is ∙ ap (λ x. search_num (kind_rows table) x k) e ∙ ap (search_num (kind_rows table) (code_of w)) (sym q) ∙ by-numbers (kind_rows table) all-spelt w hw ks
 
+-- rows of one word that give one kind
+pub row-gives : (ks : List ℕ) (g key : ℕ) → then_some (list_any (λ k. eqb k key) ks) g ≡ row_num ks g key None
+row-gives [] g key = refl
+row-gives (k ∷ ks) g key = go (eqb k key) (row-gives ks g key)
+  where
+    go : (b : Bool) → then_some (list_any (λ k. eqb k key) ks) g ≡ row_num ks g key None → then_some (b || list_any (λ k. eqb k key) ks) g ≡ when b (Some g) (row_num ks g key None)
+    go true e = refl
+    go false e = e
+
+-- and else by other rows
+pub row-or : (ks : List ℕ) (g key : ℕ) (r : Option ℕ) → option_or (row_num ks g key None) r ≡ row_num ks g key r
+row-or [] g key r = refl
+row-or (k ∷ ks) g key r = go (eqb k key) (row-or ks g key r)
+  where
+    go : (b : Bool) → option_or (row_num ks g key None) r ≡ row_num ks g key r → option_or (when b (Some g) (row_num ks g key None)) r ≡ when b (Some g) (row_num ks g key r)
+    go true e = refl
+    go false e = e
+
 -- an arm: the rows of the word v
-pub kind-arm : (v : Word) (c k r : ℕ) → c ≡ code_of v → r ≡ search_num (kind_rows table) (code_of v) k → RowKind c k r
+pub kind-arm : (v : Word) (c k : ℕ) (r : Option ℕ) → c ≡ code_of v → r ≡ search_num (kind_rows table) (code_of v) k → RowKind c k r
 kind-arm v c k r e h = record { is = h ∙ ap (λ x. search_num (kind_rows table) x k) (sym e) }
 
 -- each row's number is among these or those
@@ -159,25 +177,25 @@ missed-both js ks x t m n = go (has_key js x) refl t
 
 -- a row with the code c and the key k would have the number x
 no_number : (g : KindRow → ℕ) (js ks : List ℕ) (c k x : ℕ) → ((p : KindRow) → T (eqb (code_of p.word) c && eqb (key_of p.takes) k) → g p ≡ x) → Missed js x → Missed ks x
-    → (ps : List KindRow) → T (all_among g ps js ks) → 255 ≡ search_num ps c k
+    → (ps : List KindRow) → T (all_among g ps js ks) → None ≡ search_num ps c k
 unfolding search_num
 no_number g js ks c k x s m n [] t = refl
 no_number g js ks c k x s m n (p ∷ ps) t =
     let h = and_yes (has_key js (g p) || has_key ks (g p)) (all_among g ps js ks) t in
     go (eqb (code_of p.word) c && eqb (key_of p.takes) k) (λ u. missed-both js ks x (subst (λ y. T (has_key js y || has_key ks y)) (s p u) h.0) m n) (no_number g js ks c k x s m n ps h.1)
   where
-    go : (b : Bool) → (T b → ⊥) → 255 ≡ search_num ps c k → 255 ≡ when b (kind_code p.gives) (search_num ps c k)
+    go : (b : Bool) → (T b → ⊥) → None ≡ search_num ps c k → None ≡ when b (Some (kind_code p.gives)) (search_num ps c k)
     go true f e = absurd (f tt)
     go false f e = e
 
 -- the last arm: no row has the code
-pub no_kind : (js ks : List ℕ) → T (all_among (λ p. code_of p.word) (kind_rows table) js ks) → (c k : ℕ) → Missed js c → Missed ks c → RowKind c k 255
+pub no_kind : (js ks : List ℕ) → T (all_among (λ p. code_of p.word) (kind_rows table) js ks) → (c k : ℕ) → Missed js c → Missed ks c → RowKind c k None
 no_kind js ks t c k m n =
     let same : ((p : KindRow) → T (eqb (code_of p.word) c && eqb (key_of p.takes) k) → code_of p.word ≡ c) = λ p u. eqb→eq (code_of p.word) c (and_yes (eqb (code_of p.word) c) (eqb (key_of p.takes) k) u).0 in
     record { is = no_number (λ p. code_of p.word) js ks c k c same m n (kind_rows table) t }
 
 -- no row has the key
-pub no_key : (js ks : List ℕ) → T (all_among (λ p. key_of p.takes) (kind_rows table) js ks) → (c k : ℕ) → Missed js k → Missed ks k → RowKind c k 255
+pub no_key : (js ks : List ℕ) → T (all_among (λ p. key_of p.takes) (kind_rows table) js ks) → (c k : ℕ) → Missed js k → Missed ks k → RowKind c k None
 no_key js ks t c k m n =
     let same : ((p : KindRow) → T (eqb (code_of p.word) c && eqb (key_of p.takes) k) → key_of p.takes ≡ k) = λ p u. eqb→eq (key_of p.takes) k (and_yes (eqb (code_of p.word) c) (eqb (key_of p.takes) k) u).1 in
     record { is = no_number (λ p. key_of p.takes) js ks c k k same m n (kind_rows table) t }

@@ -4,10 +4,11 @@ use Prim.Native.Nat.{ℕ}
 use native.Mathlib.Omega.{arith}
 use mathlib.Core.Path.{◌≡◌, refl, sym, ap, subst, ◌∙◌}
 use mathlib.Core.List.{List, [], map}
-use mathlib.Core.Option.{Option, none, some}
+use mathlib.Core.Option.{Option as Maybe, none, some}
 use lib.Dec.{T}
 use lib.Ieee.{Float}
 use types.Run.{OneOf}
+use Rattle.std.specs.Prelude.{None}
 use Rattle.frames.specs.declared.Ellipsoid.{Ellipsoid}
 use Rattle.frames.specs.declared.Orientation.{Orientation}
 use Rattle.sheets.specs.declared.Halt.{Halt}
@@ -16,20 +17,18 @@ use Rattle.sheets.specs.Table.{table}
 use Rattle.sheets.specs.Lookup.{Hit, find, kind_rows, find_kind}
 use Rattle.sheets.specs.Machine.{apply_row}
 use Rattle.sheets.specs.Claim.{All}
-use Rattle.sheets.specs.code.rows.KindCodes.{key_of, kind_or_255, Missed}
+use Rattle.sheets.specs.code.rows.KindCodes.{key_of, code_if, Missed}
 use Rattle.sheets.specs.code.run.Floats.{values_at}
 use Rattle.sheets.specs.code.run.Evaluating.{Evaluated, Answers, RowLaid, ForKinds}
 use Rattle.sheets.proofs.rows.FindKind.{given, mapped, find-kind}
-use Rattle.sheets.proofs.rows.KindRowLaws.{kind-small, key-same, row-kind, all_among, no_key}
+use Rattle.sheets.proofs.rows.KindRowLaws.{key-same, row-kind, all_among, no_key}
 use Rattle.sheets.proofs.run.FloatLaws.{kinds-of-at}
 use Rattle.sheets.proofs.run.LaidSteps.{answers-none}
 use Rattle.sheets.proofs.run.ArmSteps.{named}
 
-found_none : (o : Option Hit) → 255 ≡ kind_or_255 (mapped given o) → o ≡ none
+found_none : (o : Maybe Hit) → None ≡ code_if (mapped given o) → o ≡ none
 found_none none h = refl
-found_none (some x) h =
-    let small = kind-small (given x) in
-    absurd (omega arith)
+found_none (some x) h = let z : ◌≡◌ {A = ℕ} 0 1 = cc in absurd (omega arith)
 
 module _ {e : Ellipsoid} {code key : ℕ} {f : List Float} {at n : ℕ} where
   -- an arm: the kinds js have the key
@@ -46,8 +45,8 @@ module _ {e : Ellipsoid} {code key : ℕ} {f : List Float} {at n : ℕ} where
   no-kinds js ks t mj mk = record {
     is = λ zs k. record {
       is = λ lf w hw c.
-          let r = row-kind code key 255 (no_key js ks t code key mj mk) w hw c zs k in
+          let r = row-kind code key None (no_key js ks t code key mj mk) w hw c zs k in
           let s = find-kind table w (values_at zs f at) ∙ ap (find_kind table w) (kinds-of-at zs f at) in
-          subst (λ o. Answers (apply_row e o) n at f (Err Halt.Sticks) f) (sym (found_none (find table w (values_at zs f at)) (r ∙ ap kind_or_255 (sym s)))) (answers-none at n f []);
+          subst (λ o. Answers (apply_row e o) n at f (Err Halt.Sticks) f) (sym (found_none (find table w (values_at zs f at)) (r ∙ ap code_if (sym s)))) (answers-none at n f []);
     };
   }

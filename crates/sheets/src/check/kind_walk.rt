@@ -40,10 +40,9 @@ pub fn kind_at(s: &[u8], at: usize, depth: usize, names: &Names) -> Result<(u8, 
             return Err(Refusal::Form);
         };
         let (key, end) = gather(s, n, depth - 1, names)?;
-        let kind = kind_of_row(code, key);
-        if kind == 255 {
+        let Some(kind) = kind_of_row(code, key) else {
             return Err(Refusal::Kind);
-        }
+        };
         return Ok((kind, end));
     }
     leaf_kind(s, at, names)

@@ -1,7 +1,6 @@
 -- What the pieces of the check answer, said of the walk of Check.antt over what the reader of Reader.antt reads.
 -- No part of what must be believed: they only tie the code to the definitions.
 use Rattle.std.specs.Prelude.{ℕ, zero, suc, ◌+◌, ◌≤◌, ◌≡◌, Bool, List, [], ◌∷◌, map, eqb, leb, length, get_or, take, Option, Some, None, Result, Ok, Err}
-use Rattle.std.proofs.Math.Option.{Option as Maybe, none, some}
 use mir.Val.{has_key}
 use Rattle.frames.specs.declared.Ellipsoid.{Ellipsoid}
 use Rattle.sheets.specs.Text.{Word}
@@ -15,7 +14,7 @@ use Rattle.sheets.specs.Table.{when}
 use Rattle.sheets.specs.Names.{Known, lookup, barred, reading_words}
 use Rattle.sheets.specs.code.check.Newest.{search_from, Newest}
 use Rattle.sheets.specs.declared.check.names.Names.{Names}
-use Rattle.sheets.specs.code.rows.KindCodes.{key_from}
+use Rattle.sheets.specs.code.rows.KindCodes.{code_if, key_from}
 use Rattle.sheets.specs.Scopes.{Scope}
 use Rattle.sheets.specs.Refusals.{Refusal, form, fault, Checked, fine, bad}
 use Rattle.sheets.specs.code.Refusals.{code_for}
@@ -29,11 +28,6 @@ use Rattle.sheets.specs.declared.check.admit.LineKind.{LineKind}
 use Rattle.sheets.specs.declared.check.admit.Admission.{Admission}
 
 -- ---- the words of the lines passed: line i + 1 has the word with the code at the place i, of the kind with the code there
-
--- a kind's code, where there is a kind
-abbrev pub code_if : Maybe Kind → Option ℕ
-code_if none = None
-code_if (some k) = Some (kind_code k)
 
 -- the kind code of a reading by its word's code
 unfoldable pub reading_kind : ℕ → Option ℕ

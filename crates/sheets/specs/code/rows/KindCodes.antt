@@ -1,6 +1,6 @@
 -- Kinds as numbers, and what the code answers by a word's code and such a number, against the kind table.
-use Rattle.std.specs.Prelude.{◌≡◌, List, [], ◌∷◌, Bool, ◌&&◌, not, ℕ, suc, ◌+◌, ◌*◌, eqb, get_or}
-use Rattle.std.proofs.Math.Option.{Option, none, some}
+use Rattle.std.specs.Prelude.{◌≡◌, List, [], ◌∷◌, Bool, ◌&&◌, not, ℕ, suc, ◌+◌, ◌*◌, eqb, get_or, Option, Some, None}
+use Rattle.std.proofs.Math.Option.{Option as Maybe, none, some}
 use mir.Val.{has_key}
 use Rattle.sheets.specs.code.reader.Codes.{code_of}
 use Rattle.frames.specs.declared.Orientation.TheVariants.{Enu, Ned, Body, Wan}
@@ -20,18 +20,23 @@ key_from n (k ∷ ks) = key_from (n * 16 + suc (kind_code k)) ks
 abbrev pub key_of : List Kind → ℕ
 key_of ks = key_from 0 ks
 
--- a kind's code, or 255
-abbrev pub kind_or_255 : Option Kind → ℕ
-kind_or_255 none = 255
-kind_or_255 (some k) = kind_code k
+-- a kind's code, where there is a kind
+abbrev pub code_if : Maybe Kind → Option ℕ
+code_if none = None
+code_if (some k) = Some (kind_code k)
 
--- the code of the kind that the first row gives whose word has the code c and whose kinds have the key k; 255 for none
-unfoldable pub search_num : List KindRow → ℕ → ℕ → ℕ
-search_num [] c k = 255
-search_num (p ∷ ps) c k = when (eqb (code_of p.word) c && eqb (key_of p.takes) k) (kind_code p.gives) (search_num ps c k)
+-- the kind g, where the key is one of these, and else r
+abbrev pub row_num : List ℕ → ℕ → ℕ → Option ℕ → Option ℕ
+row_num [] g key r = r
+row_num (k ∷ ks) g key r = when (eqb k key) (Some g) (row_num ks g key r)
+
+-- the code of the kind that the first row gives whose word has the code c and whose kinds have the key k
+unfoldable pub search_num : List KindRow → ℕ → ℕ → Option ℕ
+search_num [] c k = None
+search_num (p ∷ ps) c k = when (eqb (code_of p.word) c && eqb (key_of p.takes) k) (Some (kind_code p.gives)) (search_num ps c k)
 
 -- r is the kind of a bracket, by its word's code and its arguments' key
-pub record RowKind (code key r : ℕ) : Type 0 where
+pub record RowKind (code key : ℕ) (r : Option ℕ) : Type 0 where
   pub is : r ≡ search_num (kind_rows table) code key
 
 -- none of the codes
@@ -49,7 +54,7 @@ unfoldable pub plain_codes : List ℕ
 plain_codes = codes_for (λ r. not (oriented r.takes)) table []
 
 -- the same, for a word with none of the codes
-pub record RowKindBeyond (codes : List ℕ) (code key r : ℕ) : Type 0 where
+pub record RowKindBeyond (codes : List ℕ) (code key : ℕ) (r : Option ℕ) : Type 0 where
   pub is : Missed codes code → RowKind code key r
 
 -- the codes of the operators' words

@@ -65,11 +65,11 @@ pub kind_at-returns-in_err-key : goal.kind_at-returns-in_err-key
 kind_at-returns-in_err-key t c =
     let p = err_from_is_err_and c.from_residual.result c.from_residual.ensures.1 in rw (p.1 ∙ ap Err p.2) (record { is = λ ps st. form-refused _ _ _ c.byte-b.ensures.is _ _ c.if-b-eq40.true c.if-depth-eq0.false _ c.word-w.ensures _ _ c.in-Some.is _ (c.gather.ensures.is ps st) _ c.in_err-key.was })
 
-pub kind_at-returns-then-kind : goal.kind_at-returns-then-kind
-kind_at-returns-then-kind t c = record { is = λ ps st. form-no-row _ _ _ c.byte-b.ensures.is _ _ c.if-b-eq40.true c.if-depth-eq0.false _ c.word-w.ensures _ _ c.in-Some.is _ (c.gather.ensures.is ps st) _ _ c.in_ok-key.was _ c.kind_of_row-kind.ensures c.if-kind.true }
+pub kind_at-returns-in_default-kind_of_row : goal.kind_at-returns-in_default-kind_of_row
+kind_at-returns-in_default-kind_of_row t c = record { is = λ ps st. form-no-row _ _ _ c.byte-b.ensures.is _ _ c.if-b-eq40.true c.if-depth-eq0.false _ c.word-w.ensures _ _ c.in-Some.is _ (c.gather.ensures.is ps st) _ _ c.in_ok-key.was _ c.kind_of_row.ensures c.in_default-kind_of_row.is }
 
 pub kind_at-returns-then-b-eq40 : goal.kind_at-returns-then-b-eq40
-kind_at-returns-then-b-eq40 t c = record { is = λ ps st. form-row _ _ _ c.byte-b.ensures.is _ _ c.if-b-eq40.true c.if-depth-eq0.false _ c.word-w.ensures _ _ c.in-Some.is _ (c.gather.ensures.is ps st) _ _ c.in_ok-key.was _ c.kind_of_row-kind.ensures c.if-kind.false }
+kind_at-returns-then-b-eq40 t c = record { is = λ ps st. form-row _ _ _ c.byte-b.ensures.is _ _ c.if-b-eq40.true c.if-depth-eq0.false _ c.word-w.ensures _ _ c.in-Some.is _ (c.gather.ensures.is ps st) _ _ c.in_ok-key.was _ c.kind_of_row.ensures _ c.in-Some-kind_of_row.is }
 
 pub kind_at-returns : goal.kind_at-returns
 kind_at-returns t c = record { is = λ ps st. (c.leaf_kind.ensures.is ps st).is (λ e. c.if-b-eq40.false (c.byte-b.ensures.is ∙ e)) _ }

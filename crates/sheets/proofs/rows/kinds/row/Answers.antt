@@ -1,10 +1,8 @@
 -- `sheets::rows::kinds::row` meets its contract. Assumes nothing.
-use mathlib.Core.Path.{refl}
-use borrow.Author.Tests.{eq-eqb, ne_eqb}
+use mathlib.Core.Path.{ap, ◌∙◌}
+use Rattle.std.specs.Bool.{then_some}
+use Rattle.sheets.proofs.rows.KindRowLaws.{row-gives}
 use Rattle.sheets.proofs.rows.kinds.row.Goals as goal
 
-pub returns-then-takes-key : goal.returns-then-takes-key
-returns-then-takes-key c = rw (eq-eqb _ _ c.if-takes-key.true) refl
-
-pub returns-else-takes-key : goal.returns-else-takes-key
-returns-else-takes-key c = rw (ne_eqb _ _ c.if-takes-key.false) refl
+pub returns : goal.returns
+returns c = c.then_some.ensures ∙ ap (λ b. then_some b c.args.gives) c.contains.ensures.value ∙ row-gives c.args.takes.now c.args.gives c.args.key
