@@ -34,7 +34,7 @@ pub(crate) enum Unapplied {
 }
 
 // Why the machine halts: a refusal, 7, 8 or 9, stops it, or it sticks.
-#[derive(Clone, Copy)]
+#[derive(Clone, Copy, Debug, PartialEq, Eq)]
 pub(crate) enum Halt {
     Refused(Refusal),
     Sticks,

@@ -4,7 +4,7 @@ ghost use Rattle.sheets.specs.Refusals.{refusal_number};
 ghost use Rattle.sheets.specs.code.Refusals.{refusal_of};
 
 // In checking order, each with its number.
-#[derive(Clone, Copy)]
+#[derive(Clone, Copy, Debug, PartialEq, Eq)]
 pub enum Refusal {
     Size = 1,
     Lent = 2,
@@ -36,7 +36,7 @@ impl Refusal {
 }
 
 // A refusal and its line, counted from 1; 0 where it names none.
-#[derive(Clone, Copy)]
+#[derive(Clone, Copy, Debug, PartialEq, Eq)]
 pub struct Refused {
     pub refusal: Refusal,
     pub line: usize,

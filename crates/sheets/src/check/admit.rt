@@ -141,7 +141,7 @@ fn walk_lines(sheet: &[u8], start: usize, ellipsoid: Ellipsoid) -> Result<Admiss
     let mut names = Names::new();
     let mut passed: usize = 0;
     let mut at = start;
-    // No `for`: where the next line stands is known only when its line is read.
+    // No `for`: it ends with the bytes, and one over the lines' numbers would say twice what is answered then.
     while at < s.len() {
         let line = passed + 2;
         if 95 <= passed {

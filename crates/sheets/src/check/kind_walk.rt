@@ -31,7 +31,7 @@ pub fn kind_at(s: &[u8], at: usize, depth: usize, names: &Names) -> Result<(u8, 
     ensures { ForKnown names.now (λ ps. ExprHas s.now at depth ps result) }
 {
     let b = byte(s, at);
-    if b == 40 {
+    if b == b'(' {
         if depth == 0 {
             return Err(Refusal::Form);
         }
@@ -56,14 +56,14 @@ fn gather(s: &[u8], at: usize, depth: usize, names: &Names) -> Result<(u64, usiz
     let mut i = at;
     let mut key: u64 = 0;
     for _ in 0..5usize {
-        if byte(s, i) != 32 {
+        if byte(s, i) != b' ' {
             break;
         }
         let (kind, end) = kind_at(s, i + 1, depth, names)?;
         key = key * 16 + kind as u64 + 1;
         i = end;
     }
-    if byte(s, i) == 41 {
+    if byte(s, i) == b')' {
         return Ok((key, i + 1));
     }
     Err(Refusal::Form)

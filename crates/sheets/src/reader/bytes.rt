@@ -5,7 +5,7 @@ ghost use Rattle.sheets.specs.code.reader.Codes.{letter, word_char};
 ghost use Rattle.sheets.specs.code.reader.Reader.{read_word};
 ghost use Rattle.sheets.specs.code.reader.Views.{ByteAt, CharOf, DigitOf, stands_at, coded};
 
-// The byte at a place, 0 past the end.
+// The byte at a place, 0 past the end: 0 is no byte of the grammar, so that what reads a byte tests once.
 pub fn byte(s: &[u8], at: usize) -> u8
     ensures { ByteAt s.now at result }
 {

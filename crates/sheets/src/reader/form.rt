@@ -14,7 +14,7 @@ pub(crate) fn form_from(s: &[u8], start: usize, first: usize) -> Result<usize, u
 {
     let mut at = start;
     let mut number = first;
-    // No `for`: where the next line stands is known only when its line is read.
+    // No `for`: it ends with the bytes, and one over the lines' numbers would say twice what is answered then.
     while at < s.len() {
         if 96 < number {
             return Err(number);
