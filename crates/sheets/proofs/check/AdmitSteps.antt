@@ -31,7 +31,7 @@ use Rattle.sheets.specs.declared.check.names.Names.{Names}
 use Rattle.sheets.specs.code.check.Newest.{no_names, with_name}
 use Rattle.sheets.specs.code.check.Walking.{kind_from, Stands, line_word, line_said, LineHas, Outcome, Walks, LinesWalk, unless_bad, Admits}
 use Rattle.sheets.specs.declared.check.admit.LineKind.{LineKind}
-use Rattle.std.specs.Prelude.{Result, Ok, Err}
+use Rattle.std.specs.Prelude.{Option, Some, None, Result, Ok, Err}
 use Rattle.sheets.specs.declared.refusals.Refusal.{Refusal as Code}
 use Rattle.sheets.specs.declared.refusals.Refused.{Refused}
 use Rattle.sheets.specs.code.Refusals.{code_for}
@@ -236,7 +236,7 @@ module _ (o : Form (List Line)) (from : ℕ) (f : Result ℕ ℕ) (ef : f ≡ li
 
 -- ---- the whole sheet: q is what line 1 came to
 
-module _ (s : List ℕ) (q : FirstLine) (eq : q ≡ first_of (read_head s)) (a : Outcome) where
+module _ (s : List ℕ) (q : Option FirstLine) (eq : q ≡ first_of (read_head s)) (a : Outcome) where
   -- the sheet by its line 1 and its lines
   abbrev Answered : Got Head → Type 0
   Answered o = Admits s (of_form (sheet_step o (read_lines 95 2 0 s))) a
@@ -245,53 +245,53 @@ module _ (s : List ℕ) (q : FirstLine) (eq : q ≡ first_of (read_head s)) (a :
   unfolding read_sheet
   by-head g = g (read_head s) refl (sym eq)
 
-  pub admit-no-head : q ≡ FirstLine.Bad → a ≡ refused_by Code.Form 1 → Admits s (of_form (read_sheet s)) a
-  unfolding sheet_step first_of first_in Admits
+  pub admit-no-head : q ≡ None → a ≡ refused_by Code.Form 1 → Admits s (of_form (read_sheet s)) a
+  unfolding sheet_step first_of Admits
   admit-no-head h ea = by-head go
     where
-      never : {C : Type 0} (b : Bool) (d : Ellipsoid) (m : ℕ) → first_in b d m ≡ q → C
-      never true d m e = let z : ◌≡◌ {A = ℕ} 0 1 = cc in absurd (omega arith)
-      never false d m e = let z : ◌≡◌ {A = ℕ} 0 1 = cc in absurd (omega arith)
-
       go : (o : Got Head) → read_head s ≡ o → first_of o ≡ q → Answered o
       go no_got eo e = ea
-      go (got x m) eo e = never (ranged x) (surface x) m e
+      go (got x m) eo e = let z : ◌≡◌ {A = ℕ} 0 1 = cc in absurd (omega arith)
 
-  pub admit-out-of-range : (m : ℕ) → q ≡ FirstLine.OutOfRange m → a ≡ Err (unless_bad (lines_form 2 (read_lines 95 2 0 s m)) (record { refusal = Code.Ellipsoid; line = 1 })) → Admits s (of_form (read_sheet s)) a
-  unfolding sheet_step first_of first_in Admits unless_bad lines_form ◌thenᶠ◌
-  admit-out-of-range m h ea = by-head go
-    where
-      by_lines : (x : Head) (f : Form (List Line)) → ranged x ≡ false → a ≡ Err (unless_bad (lines_form 2 f) (record { refusal = Code.Ellipsoid; line = 1 })) → Admits s (of_form (f thenᶠ (λ ls. formed (record { head = x; lines = ls })))) a
-      by_lines x (bad_line j) er e = e
-      by_lines x (formed ls) er e = rw er e
+  module _ (r : FirstLine) (er : q ≡ Some r) where
+    -- by what the reader reads of line 1
+    by-read : ((x : Head) → read_head s ≡ got x r.next → r.ellipsoid ≡ first_in (ranged x) (surface x) → Answered (got x r.next)) → Admits s (of_form (read_sheet s)) a
+    unfolding first_of
+    by-read g = by-head go
+      where
+        go : (o : Got Head) → read_head s ≡ o → first_of o ≡ q → Answered o
+        go no_got eo e = let z : ◌≡◌ {A = ℕ} 0 1 = cc in absurd (omega arith)
+        go (got x k) eo e =
+            let same : ◌≡◌ {A = FirstLine} (record { ellipsoid = first_in (ranged x) (surface x); next = k }) r = cc in
+            let en : k ≡ r.next = ap (λ (z : FirstLine). z.next) same in
+            subst (λ k. Answered (got x k)) (sym en) (g x (eo ∙ ap (got x) en) (sym (ap (λ (z : FirstLine). z.ellipsoid) same)))
 
-      in-it : (b : Bool) (x : Head) (k : ℕ) → ranged x ≡ b → first_in b (surface x) k ≡ q → Answered (got x k)
-      in-it true x k er e = let z : ◌≡◌ {A = ℕ} 0 1 = cc in absurd (omega arith)
-      in-it false x k er e = let i : m ≡ k = cc in by_lines x (read_lines 95 2 0 s k) er (ea ∙ ap (λ k. Err (unless_bad (lines_form 2 (read_lines 95 2 0 s k)) (record { refusal = Code.Ellipsoid; line = 1 }))) i)
+    pub admit-out-of-range : r.ellipsoid ≡ None → a ≡ Err (unless_bad (lines_form 2 (read_lines 95 2 0 s r.next)) (record { refusal = Code.Ellipsoid; line = 1 })) → Admits s (of_form (read_sheet s)) a
+    unfolding sheet_step Admits unless_bad lines_form ◌thenᶠ◌
+    admit-out-of-range h ea = by-read (λ x eo ex. in-it (ranged x) x refl (sym h ∙ ex))
+      where
+        by_lines : (x : Head) (f : Form (List Line)) → ranged x ≡ false → a ≡ Err (unless_bad (lines_form 2 f) (record { refusal = Code.Ellipsoid; line = 1 })) → Admits s (of_form (f thenᶠ (λ ls. formed (record { head = x; lines = ls })))) a
+        by_lines x (bad_line j) er e = e
+        by_lines x (formed ls) er e = rw er e
 
-      go : (o : Got Head) → read_head s ≡ o → first_of o ≡ q → Answered o
-      go no_got eo e = let z : ◌≡◌ {A = ℕ} 0 1 = cc in absurd (omega arith)
-      go (got x k) eo e = in-it (ranged x) x k refl e
+        in-it : (b : Bool) (x : Head) → ranged x ≡ b → None ≡ first_in b (surface x) → Answered (got x r.next)
+        in-it true x er e = let z : ◌≡◌ {A = ℕ} 0 1 = cc in absurd (omega arith)
+        in-it false x er e = by_lines x (read_lines 95 2 0 s r.next) er ea
 
-  pub admit-in-range : (d : Ellipsoid) (m : ℕ) → q ≡ FirstLine.Is d m → LinesWalk (read_lines 95 2 0 s m) d m a → Admits s (of_form (read_sheet s)) a
-  unfolding sheet_step first_of first_in Admits LinesWalk Walks walk ◌thenᶠ◌
-  admit-in-range d m h w = by-head go
-    where
-      by-walk : (c : Sheet) → read_head s ≡ got c.head m → read_lines 95 2 0 s m ≡ formed c.lines → (o : Walked) → Walks o (surface c.head) m a → Admits s (of_walked c o) a
-      by-walk c eh el (passes cs) t = (m, eh, el, t)
-      by-walk c eh el (refuses x j) t = t
+    pub admit-in-range : (d : Ellipsoid) → r.ellipsoid ≡ Some d → LinesWalk (read_lines 95 2 0 s r.next) d r.next a → Admits s (of_form (read_sheet s)) a
+    unfolding sheet_step Admits LinesWalk Walks walk ◌thenᶠ◌
+    admit-in-range d h w = by-read (λ x eo ex. in-it (ranged x) x eo refl (sym h ∙ ex))
+      where
+        by-walk : (c : Sheet) → read_head s ≡ got c.head r.next → read_lines 95 2 0 s r.next ≡ formed c.lines → (o : Walked) → Walks o (surface c.head) r.next a → Admits s (of_walked c o) a
+        by-walk c eh el (passes cs) t = (r.next, eh, el, t)
+        by-walk c eh el (refuses x j) t = t
 
-      by_lines : (x : Head) (f : Form (List Line)) → read_head s ≡ got x m → read_lines 95 2 0 s m ≡ f → ranged x ≡ true → LinesWalk f (surface x) m a → Admits s (of_form (f thenᶠ (λ ls. formed (record { head = x; lines = ls })))) a
-      by_lines x (bad_line j) eh ef er t = t
-      by_lines x (formed ls) eh ef er t = rw er (by-walk (record { head = x; lines = ls }) eh ef (stepsᶜ (numbered 2 ls) startᶜ) t)
+        by_lines : (x : Head) (f : Form (List Line)) → read_head s ≡ got x r.next → read_lines 95 2 0 s r.next ≡ f → ranged x ≡ true → LinesWalk f (surface x) r.next a → Admits s (of_form (f thenᶠ (λ ls. formed (record { head = x; lines = ls })))) a
+        by_lines x (bad_line j) eh ef er t = t
+        by_lines x (formed ls) eh ef er t = rw er (by-walk (record { head = x; lines = ls }) eh ef (stepsᶜ (numbered 2 ls) startᶜ) t)
 
-      in-it : (b : Bool) (x : Head) (k : ℕ) → read_head s ≡ got x k → ranged x ≡ b → first_in b (surface x) k ≡ q → Answered (got x k)
-      in-it true x k eo er e =
-          let i : m ≡ k = cc in
-          let j : d ≡ surface x = cc in
-          subst (λ k. Answered (got x k)) i (by_lines x (read_lines 95 2 0 s m) (eo ∙ ap (got x) (sym i)) refl er (subst (λ d. LinesWalk (read_lines 95 2 0 s m) d m a) j w))
-      in-it false x k eo er e = let z : ◌≡◌ {A = ℕ} 0 1 = cc in absurd (omega arith)
-
-      go : (o : Got Head) → read_head s ≡ o → first_of o ≡ q → Answered o
-      go no_got eo e = let z : ◌≡◌ {A = ℕ} 0 1 = cc in absurd (omega arith)
-      go (got x k) eo e = in-it (ranged x) x k eo refl e
+        in-it : (b : Bool) (x : Head) → read_head s ≡ got x r.next → ranged x ≡ b → Some d ≡ first_in b (surface x) → Answered (got x r.next)
+        in-it true x eo er e =
+            let j : d ≡ surface x = cc in
+            by_lines x (read_lines 95 2 0 s r.next) eo refl er (subst (λ d. LinesWalk (read_lines 95 2 0 s r.next) d r.next a) j w)
+        in-it false x eo er e = let z : ◌≡◌ {A = ℕ} 0 1 = cc in absurd (omega arith)

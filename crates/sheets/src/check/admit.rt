@@ -8,7 +8,7 @@ ghost use Rattle.sheets.specs.LineNumbers.{line_number};
 ghost use Rattle.sheets.specs.Answers.{of_form};
 ghost use Rattle.sheets.specs.code.check.Walking.{ForKnown, BarredWord, ForScope, LineHas, WordHas, WholeHas, short_kind, LinesWalk, unless_bad, Admits};
 
-use crate::check::first_line::{FirstLine, first_line};
+use crate::check::first_line::first_line;
 use crate::check::kind_walk::kind_at;
 use crate::check::names::Names;
 use crate::reader::form::form_from;
@@ -173,10 +173,11 @@ fn walk_lines(sheet: &[u8], start: usize, ellipsoid: Ellipsoid) -> Result<Admiss
 pub fn admit(s: &[u8]) -> Result<Admission, Refused>
     ensures { Admits s.now (of_form (read_sheet s.now)) result }
 {
-    let h = first_line(s);
-    match h {
-        FirstLine::Bad => Err(Refusal::Form.at(1)),
-        FirstLine::OutOfRange(start) => Err(unless_bad(s, start, 2, Refusal::Ellipsoid.at(1))),
-        FirstLine::Is(e, start) => walk_lines(s, start, e),
+    let Some(line) = first_line(s) else {
+        return Err(Refusal::Form.at(1));
+    };
+    match line.ellipsoid {
+        None => Err(unless_bad(s, line.next, 2, Refusal::Ellipsoid.at(1))),
+        Some(ellipsoid) => walk_lines(s, line.next, ellipsoid),
     }
 }

@@ -11,52 +11,46 @@ use crate::reader::head::{HeadLine, head};
 use frames::Ellipsoid;
 use numbers::Length;
 
-// The ellipsoid and the place of line 2; or that place, where a number of line 1 is out of range; or the bytes begin with no line 1.
+// The ellipsoid, where no number of line 1 is out of range, and the place of line 2.
 #[derive(Clone, Copy)]
-pub enum FirstLine {
-    Is(Ellipsoid, usize),
-    OutOfRange(usize),
-    Bad,
+pub struct FirstLine {
+    pub ellipsoid: Option<Ellipsoid>,
+    pub next: usize,
 }
 
 // From the first to the second; a NaN lies in no range.
 fn is_between(low: f64, high: f64, x: f64) -> bool
     ensures { result ≡ between low high x }
 {
-    if low <= x { x <= high } else { false }
+    low <= x && x <= high
 }
 
 // The equatorial radius in metres, and the inverse flattening.
 fn in_range(radius: f64, inverse: f64) -> bool
     ensures { result ≡ (between (num 1000000) (num 10000000) radius && between (num 100) (num 1000) inverse) }
 {
-    if is_between(1000000.0, 10000000.0, radius) {
-        is_between(100.0, 1000.0, inverse)
-    } else {
-        false
-    }
+    is_between(1000000.0, 10000000.0, radius) && is_between(100.0, 1000.0, inverse)
 }
 
-// A line 1 with these two numbers, where line 2 stands at `next`.
-fn by_numbers(radius: f64, inverse: f64, next: usize) -> FirstLine
-    ensures { result ≡ first_in (between (num 1000000) (num 10000000) radius && between (num 100) (num 1000) inverse) (ellipsoid (metres radius) inverse) next }
+// The ellipsoid with these two numbers, where they are in range.
+fn by_numbers(radius: f64, inverse: f64) -> Option<Ellipsoid>
+    ensures { result ≡ first_in (between (num 1000000) (num 10000000) radius && between (num 100) (num 1000) inverse) (ellipsoid (metres radius) inverse) }
 {
     if in_range(radius, inverse) {
         let e = Ellipsoid::new(Length::from_metres(radius), inverse);
-        return FirstLine::Is(e, next);
+        return Some(e);
     }
-    FirstLine::OutOfRange(next)
+    None
 }
 
-pub fn first_line(s: &[u8]) -> FirstLine
+// None where the bytes begin with no line 1.
+pub fn first_line(s: &[u8]) -> Option<FirstLine>
     ensures { result ≡ first_of (read_head s.now) }
 {
-    match head(s) {
-        None => FirstLine::Bad,
-        Some((HeadLine::Wgs84, next)) => {
-            let e = Ellipsoid::wgs84();
-            FirstLine::Is(e, next)
-        }
-        Some((HeadLine::Custom(radius, inverse), next)) => by_numbers(radius, inverse, next),
-    }
+    let (line, next) = head(s)?;
+    let ellipsoid = match line {
+        HeadLine::Wgs84 => Some(Ellipsoid::wgs84()),
+        HeadLine::Custom(radius, inverse) => by_numbers(radius, inverse),
+    };
+    Some(FirstLine { ellipsoid, next })
 }

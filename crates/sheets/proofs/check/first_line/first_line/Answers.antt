@@ -1,14 +1,14 @@
 -- `sheets::check::first_line::first_line` meets its contract. Assumes nothing.
 use Rattle.std.specs.Prelude.{Some}
 use mathlib.Core.Path.{ap, ◌∙◌}
-use Rattle.sheets.proofs.check.FirstLineSteps.{first-bad, first-wgs, first-custom}
+use Rattle.sheets.proofs.check.FirstLineSteps.{first-none, first-wgs, first-custom}
 use Rattle.sheets.proofs.check.first_line.first_line.Goals as goal
 
-pub returns-in-None : goal.returns-in-None
-returns-in-None c = first-bad _ _ c.head.ensures c.in-None.is
+pub returns-in_err-line : goal.returns-in_err-line
+returns-in_err-line c = rw c.from_residual.ensures (first-none _ _ c.head.ensures c.in_err-line.was)
 
-pub returns-in-Some-Wgs84-default : goal.returns-in-Some-Wgs84-default
-returns-in-Some-Wgs84-default c = first-wgs _ _ c.head.ensures _ (c.in-Some-Wgs84-default.is ∙ ap (λ z. Some (z, c.in-Some-Wgs84-default.next)) c.in-Some-Wgs84-default.field-0-0-is) _ c.wgs84-e.ensures
+pub returns-in-Wgs84 : goal.returns-in-Wgs84
+returns-in-Wgs84 c = first-wgs _ _ c.head.ensures _ _ (c.in_ok-line.was ∙ ap (λ z. Some (z, c.in_ok-line.next)) c.in-Wgs84.is) (ap (λ z. Some z) c.wgs84.ensures)
 
-pub returns-in-Some-Custom-default : goal.returns-in-Some-Custom-default
-returns-in-Some-Custom-default c = first-custom _ _ c.head.ensures _ _ _ (c.in-Some-Custom-default.is ∙ ap (λ z. Some (z, c.in-Some-Custom-default.next)) c.in-Some-Custom-default.field-0-0-is) _ c.by_numbers.ensures
+pub returns-in-Custom : goal.returns-in-Custom
+returns-in-Custom c = first-custom _ _ c.head.ensures _ _ _ _ (c.in_ok-line.was ∙ ap (λ z. Some (z, c.in_ok-line.next)) c.in-Custom.is) c.by_numbers-ellipsoid.ensures
