@@ -1,4 +1,6 @@
 // Answers as words: the value's own first, zeros after them. A vector and a frame begin with their orientation's number.
+#![tactic(auto, unfolding(crate::specs::Words::padded, crate::specs::Words::with_vector, crate::specs::Words::with_matrix))]
+
 ghost use Rattle.std.specs.Prelude.{◌≡◌};
 ghost use Rattle.test_operations.specs.Words.{padded};
 ghost use Rattle.test_operations.specs.Values as Values;

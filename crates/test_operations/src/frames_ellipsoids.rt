@@ -1,4 +1,6 @@
 // Operations on ellipsoids. The ellipsoid is the first four words.
+#![tactic(auto, unfolding(crate::specs::Rows::answered, crate::specs::FramesTable::ellipsoid_rows, frames::specs::Ellipsoids::wgs84, numbers::proofs::Computed::computed))]
+
 ghost use Rattle.std.specs.Prelude.{◌≡◌};
 ghost use Rattle.numbers.specs.Ops.{◌⊕◌};
 ghost use Rattle.frames.specs.Ellipsoids.{p_of, q_of};
@@ -15,8 +17,8 @@ use frames::Ellipsoid;
 use numbers::Vec3;
 
 // Operations 10 to 16, and all that follow.
-pub fn ellipsoids(op: u64, a: [u64; 32]) -> [u64; 24]
-    ensures { result ≡ padded (answered ellipsoid_rows op a) }
+pub fn ellipsoids(op: u64, a: &[u64; 32]) -> [u64; 24]
+    ensures { result ≡ padded (answered ellipsoid_rows op a.now) }
 {
     let l = ellipsoid(a);
     match op {

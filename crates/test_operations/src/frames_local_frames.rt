@@ -1,4 +1,6 @@
 // Operations on frames. Where an operation takes an ellipsoid it is the first four words, where it takes a frame the first 22.
+#![tactic(auto, unfolding(crate::specs::Rows::answered, crate::specs::FramesTable::level_rows, crate::specs::FramesTable::turned_rows, crate::specs::FramesTable::led_rows, frames::specs::Frames::enu_from_geocentric, frames::specs::Frames::enu_from_geodetic, frames::specs::Frames::ned_from_geocentric, frames::specs::Frames::ned_from_geodetic, frames::specs::Frames::body_from_geocentric, frames::specs::Frames::body_from_geodetic, frames::specs::Frames::wander_azimuth_from_geocentric, frames::specs::Frames::wander_azimuth_from_geodetic, frames::specs::Frames::looking_at_geocentric, frames::specs::Frames::looking_at_geodetic))]
+
 ghost use Rattle.std.specs.Prelude.{◌≡◌};
 ghost use Rattle.frames.specs.Frames as Frames;
 ghost use Rattle.test_operations.specs.Words.{padded};
@@ -13,8 +15,8 @@ use crate::words::matrix;
 use frames::LocalFrame;
 
 // Operations 37 to 40, and all that follow.
-pub fn levels(op: u64, a: [u64; 32]) -> [u64; 24]
-    ensures { result ≡ padded (answered level_rows op a) }
+pub fn levels(op: u64, a: &[u64; 32]) -> [u64; 24]
+    ensures { result ≡ padded (answered level_rows op a.now) }
 {
     let l = ellipsoid(a);
     let g = geocentric(a, 4);
@@ -29,8 +31,8 @@ pub fn levels(op: u64, a: [u64; 32]) -> [u64; 24]
 }
 
 // Operations 41 to 46, and all that follow.
-fn turned(op: u64, a: [u64; 32]) -> [u64; 24]
-    ensures { result ≡ padded (answered turned_rows op a) }
+fn turned(op: u64, a: &[u64; 32]) -> [u64; 24]
+    ensures { result ≡ padded (answered turned_rows op a.now) }
 {
     let l = ellipsoid(a);
     let g = geocentric(a, 4);
@@ -51,8 +53,8 @@ fn turned(op: u64, a: [u64; 32]) -> [u64; 24]
 }
 
 // Operations 47 to 53, and all that follow.
-fn led(op: u64, a: [u64; 32]) -> [u64; 24]
-    ensures { result ≡ padded (answered led_rows op a) }
+fn led(op: u64, a: &[u64; 32]) -> [u64; 24]
+    ensures { result ≡ padded (answered led_rows op a.now) }
 {
     let f = local_frame(a);
     match op {
@@ -67,8 +69,8 @@ fn led(op: u64, a: [u64; 32]) -> [u64; 24]
     }
 }
 
-fn transformed(a: [u64; 32]) -> LocalFrame
-    ensures { result ≡ Frames.transform (frame_at a) (local_at a 22) (angle_at a 25) (angle_at a 26) (angle_at a 27) }
+fn transformed(a: &[u64; 32]) -> LocalFrame
+    ensures { result ≡ Frames.transform (frame_at a.now) (local_at a.now 22) (angle_at a.now 25) (angle_at a.now 26) (angle_at a.now 27) }
 {
     let offset = local_vector(a, 22);
     let yaw = angle(a, 25);

@@ -1,4 +1,6 @@
 // Operations on positions.
+#![tactic(auto, unfolding(crate::specs::Rows::answered, crate::specs::FramesTable::table, crate::specs::Words::vector_at, crate::specs::Values::geocentric_at))]
+
 ghost use Rattle.std.specs.Prelude.{◌≡◌};
 ghost use Rattle.frames.specs.Positions.{lat_long};
 ghost use Rattle.test_operations.specs.Words.{padded};
@@ -15,8 +17,8 @@ use frames::positions::PositionVector;
 use frames::{GeocentricPosition, GeodeticPosition, LatLong, NVector};
 
 // Operations 0 to 9, and all that follow.
-pub fn positions(op: u64, a: [u64; 32]) -> [u64; 24]
-    ensures { result ≡ padded (answered table op a) }
+pub fn positions(op: u64, a: &[u64; 32]) -> [u64; 24]
+    ensures { result ≡ padded (answered table op a.now) }
 {
     let v = vector_at(a, 0);
     let g = geocentric(a, 0);
@@ -68,8 +70,8 @@ fn nvector(n: NVector) -> [u64; 24]
     vector(v)
 }
 
-fn lat_long(a: [u64; 32]) -> LatLong
-    ensures { result ≡ lat_long (Values.angle_at a 0) (Values.angle_at a 1) }
+fn lat_long(a: &[u64; 32]) -> LatLong
+    ensures { result ≡ lat_long (Values.angle_at a.now 0) (Values.angle_at a.now 1) }
 {
     let latitude = angle(a, 0);
     let longitude = angle(a, 1);

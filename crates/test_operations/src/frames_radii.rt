@@ -1,4 +1,6 @@
 // The radii of an ellipsoid, which is the first four words, at the latitude of the fifth; and the division of a vector.
+#![tactic(auto, unfolding(crate::specs::Rows::answered, crate::specs::FramesTable::radius_rows, crate::specs::Words::padded))]
+
 ghost use Rattle.std.specs.Prelude.{◌≡◌};
 ghost use Rattle.test_operations.specs.Words.{padded};
 ghost use Rattle.test_operations.specs.Rows.{answered};
@@ -9,8 +11,8 @@ use crate::frames_inputs::{angle, ellipsoid, local_vector};
 use crate::words::{double_at, number};
 
 // Operations 54 to 59. All zeros where there is no such operation.
-pub fn radii(op: u64, a: [u64; 32]) -> [u64; 24]
-    ensures { result ≡ padded (answered radius_rows op a) }
+pub fn radii(op: u64, a: &[u64; 32]) -> [u64; 24]
+    ensures { result ≡ padded (answered radius_rows op a.now) }
 {
     let l = ellipsoid(a);
     let latitude = angle(a, 4);

@@ -1,4 +1,6 @@
 // Operations on orientations and rotation matrices.
+#![tactic(auto, unfolding(crate::specs::Rows::answered, crate::specs::FramesTable::rotation_rows))]
+
 ghost use Rattle.std.specs.Prelude.{◌≡◌};
 ghost use Rattle.test_operations.specs.Words.{padded};
 ghost use Rattle.test_operations.specs.Rows.{answered};
@@ -12,8 +14,8 @@ use frames::orientations::align_to_z_down_matrix;
 use frames::rotation;
 
 // Operations 31 to 36, and all that follow.
-pub fn rotations(op: u64, a: [u64; 32]) -> [u64; 24]
-    ensures { result ≡ padded (answered rotation_rows op a) }
+pub fn rotations(op: u64, a: &[u64; 32]) -> [u64; 24]
+    ensures { result ≡ padded (answered rotation_rows op a.now) }
 {
     match op {
         31 => truth(orientation(a).is_z_up()),

@@ -1,4 +1,6 @@
 // Operations on local vectors.
+#![tactic(auto, unfolding(crate::specs::Rows::answered, crate::specs::FramesTable::vector_rows, crate::specs::FramesTable::combined_rows, crate::specs::Words::vector_at, crate::specs::Values::angle_at, crate::specs::Values::length_at, crate::specs::Values::local_at))]
+
 ghost use Rattle.std.specs.Prelude.{◌≡◌};
 ghost use Rattle.test_operations.specs.Words.{padded};
 ghost use Rattle.test_operations.specs.Rows.{answered};
@@ -14,8 +16,8 @@ use frames::positions::PositionVector;
 use numbers::{Angle, Length};
 
 // Operations 17 to 21, those that make a vector, and all that follow.
-pub fn vectors(op: u64, a: [u64; 32]) -> [u64; 24]
-    ensures { result ≡ padded (answered vector_rows op a) }
+pub fn vectors(op: u64, a: &[u64; 32]) -> [u64; 24]
+    ensures { result ≡ padded (answered vector_rows op a.now) }
 {
     let o = orientation(a);
     let v = vector_at(a, 1);
@@ -36,8 +38,8 @@ fn components(v: LocalVector) -> [u64; 24]
 }
 
 // Operations 22 to 30, and all that follow.
-fn combined(op: u64, a: [u64; 32]) -> [u64; 24]
-    ensures { result ≡ padded (answered combined_rows op a) }
+fn combined(op: u64, a: &[u64; 32]) -> [u64; 24]
+    ensures { result ≡ padded (answered combined_rows op a.now) }
 {
     let v = local_vector(a, 1);
     let w = local_vector(a, 4);

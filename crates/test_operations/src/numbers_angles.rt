@@ -1,4 +1,6 @@
 // Operations on angles and lengths. An angle goes by its radians, a length by its metres.
+#![tactic(auto, unfolding(crate::specs::Rows::answered, crate::specs::NumbersTable::angle_rows))]
+
 ghost use Rattle.std.specs.Prelude.{◌≡◌};
 ghost use Rattle.test_operations.specs.Words.{padded};
 ghost use Rattle.test_operations.specs.Rows.{answered};
@@ -9,8 +11,8 @@ use crate::words::{double_at, number, truth};
 use numbers::{Angle, Length};
 
 // Operations 17 to 27, and all that follow.
-pub fn angles(op: u64, a: [u64; 32]) -> [u64; 24]
-    ensures { result ≡ padded (answered angle_rows op a) }
+pub fn angles(op: u64, a: &[u64; 32]) -> [u64; 24]
+    ensures { result ≡ padded (answered angle_rows op a.now) }
 {
     let x = double_at(a, 0);
     let y = double_at(a, 1);

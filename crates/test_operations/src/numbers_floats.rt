@@ -1,4 +1,6 @@
 // Operations on numbers alone.
+#![tactic(auto, unfolding(crate::specs::Rows::answered, crate::specs::NumbersTable::table))]
+
 ghost use Rattle.std.specs.Prelude.{◌≡◌};
 ghost use Rattle.test_operations.specs.Words.{padded};
 ghost use Rattle.test_operations.specs.Rows.{answered};
@@ -13,8 +15,8 @@ use numbers::sine::{cos, sin};
 use numbers::{float, numbers as compare};
 
 // Operations 0 to 16, and all that follow.
-pub fn floats(op: u64, a: [u64; 32]) -> [u64; 24]
-    ensures { result ≡ padded (answered table op a) }
+pub fn floats(op: u64, a: &[u64; 32]) -> [u64; 24]
+    ensures { result ≡ padded (answered table op a.now) }
 {
     let x = double_at(a, 0);
     let y = double_at(a, 1);

@@ -1,4 +1,6 @@
 // Operations on matrices, and the constants.
+#![tactic(auto, using(numbers::proofs::EqualLaws::equal_matrices), unfolding(crate::specs::Rows::answered, crate::specs::NumbersTable::matrix_rows, crate::specs::Words::padded, crate::specs::Words::with_vector, crate::specs::NumbersTable::angle_constants, crate::specs::NumbersTable::vector_constants, numbers::proofs::Computed::computed))]
+
 ghost use Rattle.std.specs.Prelude.{◌≡◌};
 ghost use Rattle.test_operations.specs.Words.{padded};
 ghost use Rattle.test_operations.specs.Rows.{answered};
@@ -10,8 +12,8 @@ use numbers::float::bits;
 use numbers::{Angle, Mat33, Vec3};
 
 // Operations 45 to 51, and all that follow.
-pub fn matrices(op: u64, a: [u64; 32]) -> [u64; 24]
-    ensures { result ≡ padded (answered matrix_rows op a) }
+pub fn matrices(op: u64, a: &[u64; 32]) -> [u64; 24]
+    ensures { result ≡ padded (answered matrix_rows op a.now) }
 {
     match op {
         45 => matrix(matrix_at(a, 0).transpose()),

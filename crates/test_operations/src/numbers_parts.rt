@@ -1,4 +1,6 @@
 // Operations that make a value of its parts and take it apart again.
+#![tactic(auto, unfolding(crate::specs::Rows::answered, crate::specs::NumbersTable::part_rows, numbers::proofs::Computed::computed))]
+
 ghost use Rattle.std.specs.Prelude.{◌≡◌};
 ghost use Rattle.test_operations.specs.Words.{padded};
 ghost use Rattle.test_operations.specs.Rows.{answered};
@@ -9,8 +11,8 @@ use crate::words::{double_at, matrix, matrix_at, number, one, vector, vector_at}
 use numbers::{Angle, Length, Mat33, Vec3, float};
 
 // Operations 52 to 58, and all that follow.
-pub fn parts(op: u64, a: [u64; 32]) -> [u64; 24]
-    ensures { result ≡ padded (answered part_rows op a) }
+pub fn parts(op: u64, a: &[u64; 32]) -> [u64; 24]
+    ensures { result ≡ padded (answered part_rows op a.now) }
 {
     let x = double_at(a, 0);
     match op {

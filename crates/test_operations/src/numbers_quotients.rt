@@ -1,4 +1,6 @@
 // Quotients by a number, and the sum of two lengths.
+#![tactic(auto, unfolding(crate::specs::Rows::answered, crate::specs::NumbersTable::quotient_rows, crate::specs::Words::padded))]
+
 ghost use Rattle.std.specs.Prelude.{◌≡◌};
 ghost use Rattle.test_operations.specs.Words.{padded};
 ghost use Rattle.test_operations.specs.Rows.{answered};
@@ -8,8 +10,8 @@ use crate::words::{double_at, number, vector, vector_at};
 use numbers::Length;
 
 // Operations 59 to 61. All zeros where there is no such operation.
-pub fn quotients(op: u64, a: [u64; 32]) -> [u64; 24]
-    ensures { result ≡ padded (answered quotient_rows op a) }
+pub fn quotients(op: u64, a: &[u64; 32]) -> [u64; 24]
+    ensures { result ≡ padded (answered quotient_rows op a.now) }
 {
     let x = double_at(a, 0);
     let y = double_at(a, 1);

@@ -1,4 +1,6 @@
 // Operations on vectors.
+#![tactic(auto, unfolding(crate::specs::Rows::answered, crate::specs::NumbersTable::vector_rows, crate::specs::Words::vector_at))]
+
 ghost use Rattle.std.specs.Prelude.{◌≡◌};
 ghost use Rattle.test_operations.specs.Words.{padded};
 ghost use Rattle.test_operations.specs.Rows.{answered};
@@ -9,8 +11,8 @@ use crate::words::{number, truth, vector, vector_at};
 use numbers::Vec3;
 
 // Operations 28 to 44, and all that follow.
-pub fn vectors(op: u64, a: [u64; 32]) -> [u64; 24]
-    ensures { result ≡ padded (answered vector_rows op a) }
+pub fn vectors(op: u64, a: &[u64; 32]) -> [u64; 24]
+    ensures { result ≡ padded (answered vector_rows op a.now) }
 {
     let v = vector_at(a, 0);
     let w = vector_at(a, 3);

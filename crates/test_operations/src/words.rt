@@ -1,4 +1,6 @@
 // Words taken and answered. A double goes by its bits; every NaN is 7ff8000000000000.
+#![tactic(auto, unfolding(crate::specs::Words::double_at, crate::specs::Words::vector_at, crate::specs::Words::matrix_at, crate::specs::Words::padded, crate::specs::Words::with_vector, crate::specs::Words::with_matrix))]
+
 ghost use Rattle.std.specs.Prelude.{◌≤◌, ◌≡◌, [], ◌∷◌};
 ghost use Rattle.test_operations.specs.Words as Words;
 
@@ -6,17 +8,17 @@ use numbers::float::{bits, double};
 use numbers::{Mat33, Vec3};
 
 // The double of the word at a place.
-pub fn double_at(a: [u64; 32], at: usize) -> f64
+pub fn double_at(a: &[u64; 32], at: usize) -> f64
     requires { at ≤ 31 }
-    ensures { result ≡ Words.double_at a at }
+    ensures { result ≡ Words.double_at a.now at }
 {
     double(a[at])
 }
 
 // The vector of three words from a place on, as they stand.
-pub fn vector_at(a: [u64; 32], at: usize) -> Vec3
+pub fn vector_at(a: &[u64; 32], at: usize) -> Vec3
     requires { at ≤ 29 }
-    ensures { result ≡ Words.vector_at a at }
+    ensures { result ≡ Words.vector_at a.now at }
 {
     let x = double_at(a, at);
     let y = double_at(a, at + 1);
@@ -25,9 +27,9 @@ pub fn vector_at(a: [u64; 32], at: usize) -> Vec3
 }
 
 // The matrix of nine words from a place on, by rows, as they stand.
-pub fn matrix_at(a: [u64; 32], at: usize) -> Mat33
+pub fn matrix_at(a: &[u64; 32], at: usize) -> Mat33
     requires { at ≤ 23 }
-    ensures { result ≡ Words.matrix_at a at }
+    ensures { result ≡ Words.matrix_at a.now at }
 {
     let r0 = vector_at(a, at);
     let r1 = vector_at(a, at + 3);
@@ -55,7 +57,7 @@ pub fn number(x: f64) -> [u64; 24]
 pub fn truth(t: bool) -> [u64; 24]
     ensures { result ≡ Words.padded (Words.truth t) }
 {
-    if t { one(1) } else { one(0) }
+    one(u64::from(t))
 }
 
 // The words with a vector's three put in from a place on.

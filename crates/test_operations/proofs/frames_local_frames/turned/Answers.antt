@@ -1,10 +1,7 @@
 -- `test_operations::frames_local_frames::turned` answers the rows from 41 on. Assumes nothing.
-use mathlib.Core.Path.{sym, ap, ◌∙◌}
 use Rattle.frames.specs.Frames.{body_from_geocentric, body_from_geodetic, wander_azimuth_from_geocentric, wander_azimuth_from_geodetic, looking_at_geocentric, looking_at_geodetic}
 use Rattle.test_operations.specs.Rows.{answered}
 use Rattle.test_operations.specs.FramesTable.{turned_rows}
-use Rattle.test_operations.specs.Words.{padded}
-use Rattle.test_operations.proofs.RowLaws.{skipped}
 use Rattle.test_operations.proofs.frames_local_frames.turned.Goals as goal
 
 pub returns-in-41 : goal.returns-in-41
@@ -30,7 +27,3 @@ returns-in-45 c = rw c.in-45.is (simp (c.local_frame-in-45.ensures, c.looking_at
 pub returns-in-46 : goal.returns-in-46
 unfolding answered turned_rows looking_at_geodetic
 returns-in-46 c = rw c.in-46.is (simp (c.local_frame-in-46.ensures, c.looking_at-in-46.ensures, c.angle.ensures, c.geodetic.ensures, c.geodetic-d.ensures, c.ellipsoid-l.ensures))
-
-pub returns-in_default : goal.returns-in_default
-unfolding answered turned_rows
-returns-in_default c = c.led.ensures ∙ ap padded (sym (skipped 6 turned_rows _ _ c.in_default.in_default-own.rest).0)
