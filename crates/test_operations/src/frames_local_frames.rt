@@ -8,10 +8,9 @@ ghost use Rattle.test_operations.specs.Rows.{answered};
 ghost use Rattle.test_operations.specs.Values.{angle_at, local_at, frame_at};
 ghost use Rattle.test_operations.specs.FramesTable.{level_rows, turned_rows, led_rows};
 
-use crate::frames_answers as answers;
+use crate::answer::Answer;
 use crate::frames_inputs::{angle, ellipsoid, geocentric, geodetic, local_frame, local_vector};
 use crate::frames_radii::radii;
-use crate::words::matrix;
 use frames::LocalFrame;
 
 // Operations 37 to 40, and all that follow.
@@ -22,10 +21,10 @@ pub fn levels(op: u64, a: &[u64; 32]) -> [u64; 24]
     let g = geocentric(a, 4);
     let d = geodetic(a, 4);
     match op {
-        37 => answers::local_frame(LocalFrame::enu(g, l)),
-        38 => answers::local_frame(LocalFrame::enu(d, l)),
-        39 => answers::local_frame(LocalFrame::ned(g, l)),
-        40 => answers::local_frame(LocalFrame::ned(d, l)),
+        37 => LocalFrame::enu(g, l).answer(),
+        38 => LocalFrame::enu(d, l).answer(),
+        39 => LocalFrame::ned(g, l).answer(),
+        40 => LocalFrame::ned(d, l).answer(),
         _ => turned(op, a),
     }
 }
@@ -42,12 +41,12 @@ fn turned(op: u64, a: &[u64; 32]) -> [u64; 24]
     let at9 = angle(a, 9);
     let at10 = angle(a, 10);
     match op {
-        41 => answers::local_frame(LocalFrame::body(at7, at8, at9, g, l)),
-        42 => answers::local_frame(LocalFrame::body(at8, at9, at10, d, l)),
-        43 => answers::local_frame(LocalFrame::wander_azimuth(at7, g, l)),
-        44 => answers::local_frame(LocalFrame::wander_azimuth(at8, d, l)),
-        45 => answers::local_frame(LocalFrame::looking_at(g, geocentric(a, 7), at10, l)),
-        46 => answers::local_frame(LocalFrame::looking_at(d, geodetic(a, 8), angle(a, 12), l)),
+        41 => LocalFrame::body(at7, at8, at9, g, l).answer(),
+        42 => LocalFrame::body(at8, at9, at10, d, l).answer(),
+        43 => LocalFrame::wander_azimuth(at7, g, l).answer(),
+        44 => LocalFrame::wander_azimuth(at8, d, l).answer(),
+        45 => LocalFrame::looking_at(g, geocentric(a, 7), at10, l).answer(),
+        46 => LocalFrame::looking_at(d, geodetic(a, 8), angle(a, 12), l).answer(),
         _ => led(op, a),
     }
 }
@@ -58,13 +57,13 @@ fn led(op: u64, a: &[u64; 32]) -> [u64; 24]
 {
     let f = local_frame(a);
     match op {
-        47 => answers::local_frame(f.rotate_around_z(angle(a, 22))),
-        48 => matrix(f.local_to_earth_matrix()),
-        49 => matrix(f.earth_to_local_matrix()),
-        50 => answers::geocentric(f.origin()),
-        51 => answers::local_frame(transformed(a)),
-        52 => answers::local_vector(f.local_vector_to(geocentric(a, 22))),
-        53 => answers::geocentric(f.destination_position(local_vector(a, 22))),
+        47 => f.rotate_around_z(angle(a, 22)).answer(),
+        48 => f.local_to_earth_matrix().answer(),
+        49 => f.earth_to_local_matrix().answer(),
+        50 => f.origin().answer(),
+        51 => transformed(a).answer(),
+        52 => f.local_vector_to(geocentric(a, 22)).answer(),
+        53 => f.destination_position(local_vector(a, 22)).answer(),
         _ => radii(op, a),
     }
 }

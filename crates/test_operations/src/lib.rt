@@ -2,8 +2,9 @@
 // Inputs and outputs are bits. The tables of the operations are specs/NumbersTable.antt and specs/FramesTable.antt.
 #![tactic(auto)]
 
+pub mod answer;
 pub mod counts;
-pub mod frames_answers;
+mod frames_answers;
 pub mod frames_direct;
 pub mod frames_ellipsoids;
 mod frames_inputs;
