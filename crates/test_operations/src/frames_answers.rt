@@ -1,65 +1,103 @@
-// Answers as words: the value's own first, zeros after them. A vector and a frame begin with their orientation's number.
-ghost use Rattle.std.specs.Prelude.{◌≡◌};
-ghost use Rattle.test_operations.specs.Words.{padded};
+// Values of `frames` as answers. A vector and a frame begin with their orientation's number.
+#![tactic(auto, unfolding(crate::specs::Words::padded, crate::specs::Words::with_vector, crate::specs::Words::with_matrix))]
+
+ghost use Rattle.std.specs.Prelude.{ℕ, ◌≡◌, List};
+ghost use Rattle.test_operations.specs.Words.{vector};
 ghost use Rattle.test_operations.specs.Values as Values;
 
-use crate::words::{number, one, vector, with_matrix, with_vector};
+use crate::answer::Answer;
+use crate::words::{put_matrix, put_vector};
 use frames::{
-    Ellipsoid, GeocentricPosition, GeodeticPosition, LatLong, LocalFrame, LocalVector, Orientation,
-    Xyz, Zyx,
+    Ellipsoid, GeocentricPosition, GeodeticPosition, LatLong, LocalFrame, LocalVector, NVector,
+    Orientation, Xyz, Zyx,
 };
 use numbers::Vec3;
 use numbers::float::bits;
 
-pub fn three(x: f64, y: f64, z: f64) -> [u64; 24]
-    ensures { result ≡ padded (Values.three x y z) }
-{
-    vector(Vec3 { x, y, z })
+impl Answer for Ellipsoid {
+    ghost words = { Values.ellipsoid_words };
+
+    fn answer(self) -> [u64; 24] {
+        let (a, b) = (self.equatorial_radius.0, self.polar_radius.0);
+        let mut out = Vec3 {
+            x: a,
+            y: b,
+            z: self.eccentricity,
+        }
+        .answer();
+        out[3] = bits(self.flattening);
+        out
+    }
 }
 
-pub fn ellipsoid(l: Ellipsoid) -> [u64; 24]
-    ensures { result ≡ padded (Values.ellipsoid_words l) }
-{
-    let mut out = three(l.equatorial_radius.0, l.polar_radius.0, l.eccentricity);
-    out[3] = bits(l.flattening);
-    out
+impl Answer for GeocentricPosition {
+    ghost words = { Values.geocentric_words };
+
+    fn answer(self) -> [u64; 24] {
+        Vec3 {
+            x: self.x.0,
+            y: self.y.0,
+            z: self.z.0,
+        }
+        .answer()
+    }
 }
 
-pub fn geocentric(p: GeocentricPosition) -> [u64; 24]
-    ensures { result ≡ padded (Values.geocentric_words p) }
-{
-    three(p.x.0, p.y.0, p.z.0)
+impl Answer for NVector {
+    ghost words = { λ n. vector n.0 };
+
+    fn answer(self) -> [u64; 24] {
+        self.0.answer()
+    }
 }
 
-pub fn geodetic(p: GeodeticPosition) -> [u64; 24]
-    ensures { result ≡ padded (Values.geodetic_words p) }
-{
-    let v = p.hp.0;
-    let mut out = vector(v);
-    out[3] = bits(p.height.0);
-    out
+impl Answer for GeodeticPosition {
+    ghost words = { Values.geodetic_words };
+
+    fn answer(self) -> [u64; 24] {
+        let mut out = self.hp.answer();
+        out[3] = bits(self.height.0);
+        out
+    }
 }
 
-pub fn lat_long(l: LatLong) -> [u64; 24]
-    ensures { result ≡ padded (Values.lat_long_words l) }
-{
-    let mut out = number(l.latitude.0);
-    out[1] = bits(l.longitude.0);
-    out
+impl Answer for LatLong {
+    ghost words = { Values.lat_long_words };
+
+    fn answer(self) -> [u64; 24] {
+        let mut out = self.latitude.answer();
+        out[1] = bits(self.longitude.0);
+        out
+    }
 }
 
-pub fn xyz(a: Xyz) -> [u64; 24]
-    ensures { result ≡ padded (Values.xyz_words a) }
-{
-    three(a.x.0, a.y.0, a.z.0)
+impl Answer for Xyz {
+    ghost words = { Values.xyz_words };
+
+    fn answer(self) -> [u64; 24] {
+        Vec3 {
+            x: self.x.0,
+            y: self.y.0,
+            z: self.z.0,
+        }
+        .answer()
+    }
 }
 
-pub fn zyx(a: Zyx) -> [u64; 24]
-    ensures { result ≡ padded (Values.zyx_words a) }
-{
-    three(a.z.0, a.y.0, a.x.0)
+impl Answer for Zyx {
+    ghost words = { Values.zyx_words };
+
+    fn answer(self) -> [u64; 24] {
+        Vec3 {
+            x: self.z.0,
+            y: self.y.0,
+            z: self.x.0,
+        }
+        .answer()
+    }
 }
 
+// The number of an orientation.
 fn orientation(o: Orientation) -> u64
     ensures { result ≡ Values.orientation_number o }
 {
@@ -71,26 +109,26 @@ fn orientation(o: Orientation) -> u64
     }
 }
 
-pub fn local_vector(v: LocalVector) -> [u64; 24]
-    ensures { result ≡ padded (Values.local_words v) }
-{
-    let o = v.orientation;
-    let mut out = one(orientation(o));
-    out[1] = bits(v.x.0);
-    out[2] = bits(v.y.0);
-    out[3] = bits(v.z.0);
-    out
+impl Answer for LocalVector {
+    ghost words = { Values.local_words };
+
+    fn answer(self) -> [u64; 24] {
+        let mut out = orientation(self.orientation).answer();
+        out[1] = bits(self.x.0);
+        out[2] = bits(self.y.0);
+        out[3] = bits(self.z.0);
+        out
+    }
 }
 
-pub fn local_frame(f: LocalFrame) -> [u64; 24]
-    ensures { result ≡ padded (Values.frame_words f) }
-{
-    let o = f.orientation;
-    let origin = f.origin;
-    let dir_rm = f.dir_rm;
-    let inv_rm = f.inv_rm;
-    let out = one(orientation(o));
-    let out = with_vector(out, 1, origin);
-    let out = with_matrix(out, 4, dir_rm);
-    with_matrix(out, 13, inv_rm)
+impl Answer for LocalFrame {
+    ghost words = { Values.frame_words };
+
+    fn answer(self) -> [u64; 24] {
+        let mut out = orientation(self.orientation).answer();
+        put_vector(&mut out, 1, self.origin);
+        put_matrix(&mut out, 4, self.dir_rm);
+        put_matrix(&mut out, 13, self.inv_rm);
+        out
+    }
 }

@@ -1,4 +1,6 @@
 // Functions of `frames` that the bench calls, numbers in and numbers out; test_operations_c hands them to C.
+#![tactic(auto, unfolding(crate::specs::Direct::vector_from, crate::specs::Direct::matrix_from, crate::specs::Direct::frame_of, crate::specs::Direct::entries, frames::specs::Frames::enu_from_geodetic))]
+
 ghost use Rattle.std.specs.Prelude.{◌≤◌, ◌≡◌};
 ghost use Rattle.frames.specs.Positions.{geocentric_from_metres};
 ghost use Rattle.frames.specs.Ellipsoids.{geodetic_to_geocentric, geocentric_to_geodetic};

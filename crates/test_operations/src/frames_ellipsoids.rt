@@ -1,13 +1,15 @@
 // Operations on ellipsoids. The ellipsoid is the first four words.
+#![tactic(auto, unfolding(crate::specs::Rows::answered, crate::specs::FramesTable::ellipsoid_rows, frames::specs::Ellipsoids::wgs84, numbers::proofs::Computed::computed))]
+
 ghost use Rattle.std.specs.Prelude.{◌≡◌};
 ghost use Rattle.numbers.specs.Ops.{◌⊕◌};
 ghost use Rattle.frames.specs.Ellipsoids.{p_of, q_of};
 ghost use Rattle.test_operations.specs.Words.{padded};
 ghost use Rattle.test_operations.specs.Rows.{answered};
-ghost use Rattle.test_operations.specs.Values as Values;
+ghost use Rattle.numbers.specs.Vec.{raw};
 ghost use Rattle.test_operations.specs.FramesTable.{ellipsoid_rows};
 
-use crate::frames_answers as answers;
+use crate::answer::Answer;
 use crate::frames_inputs::{ellipsoid, geocentric, geodetic, length};
 use crate::frames_vectors::vectors;
 use crate::words::{double_at, vector_at};
@@ -15,42 +17,44 @@ use frames::Ellipsoid;
 use numbers::Vec3;
 
 // Operations 10 to 16, and all that follow.
-pub fn ellipsoids(op: u64, a: [u64; 32]) -> [u64; 24]
-    ensures { result ≡ padded (answered ellipsoid_rows op a) }
+pub fn ellipsoids(op: u64, a: &[u64; 32]) -> [u64; 24]
+    ensures { result ≡ padded (answered ellipsoid_rows op a.now) }
 {
     let l = ellipsoid(a);
     match op {
-        10 => answers::ellipsoid(Ellipsoid::new(length(a, 0), double_at(a, 1))),
-        11 => answers::ellipsoid(Ellipsoid::WGS84),
-        12 => answers::ellipsoid(Ellipsoid::wgs84()),
-        13 => figures(l),
-        14 => answers::geocentric(l.geodetic_to_geocentric_position(geodetic(a, 4))),
-        15 => answers::geodetic(l.geocentric_to_geodetic_position(geocentric(a, 4))),
-        16 => centre(l, vector_at(a, 4)),
+        10 => Ellipsoid::new(length(a, 0), double_at(a, 1)).answer(),
+        11 => Ellipsoid::WGS84.answer(),
+        12 => Ellipsoid::wgs84().answer(),
+        13 => figures(l).answer(),
+        14 => l.geodetic_to_geocentric_position(geodetic(a, 4)).answer(),
+        15 => l.geocentric_to_geodetic_position(geocentric(a, 4)).answer(),
+        16 => centre(l, vector_at(a, 4)).answer(),
         _ => vectors(op, a),
     }
 }
 
-fn figures(l: Ellipsoid) -> [u64; 24]
-    ensures { result ≡ padded (Values.ellipsoid_words l) }
+// An ellipsoid of its own parts, taken by their accessors.
+fn figures(l: Ellipsoid) -> Ellipsoid
+    ensures { result ≡ l }
 {
     let equatorial_radius = l.equatorial_radius();
     let polar_radius = l.polar_radius();
     let eccentricity = l.eccentricity();
     let flattening = l.flattening();
-    answers::ellipsoid(Ellipsoid {
+    Ellipsoid {
         equatorial_radius,
         polar_radius,
         eccentricity,
         flattening,
-    })
+    }
 }
 
 // p, q and their sum.
-fn centre(l: Ellipsoid, v: Vec3) -> [u64; 24]
-    ensures { result ≡ padded (Values.three (p_of l v) (q_of l v) (p_of l v ⊕ q_of l v)) }
+fn centre(l: Ellipsoid, v: Vec3) -> Vec3
+    ensures { result ≡ raw (p_of l v) (q_of l v) (p_of l v ⊕ q_of l v) }
 {
     let p = l.p_of(v);
     let q = l.q_of(v);
-    answers::three(p, q, p + q)
+    let z = p + q;
+    Vec3 { x: p, y: q, z }
 }

@@ -1,4 +1,6 @@
 // Values from words, as the words stand: any bits may make any field.
+#![tactic(auto, unfolding(crate::specs::Values::angle_at, crate::specs::Values::length_at, crate::specs::Values::geocentric_at, crate::specs::Values::geodetic_at, crate::specs::Values::ellipsoid_at, crate::specs::Values::orientation_of, crate::specs::Values::orientation_at, crate::specs::Values::local_at, crate::specs::Values::frame_at))]
+
 ghost use Rattle.std.specs.Prelude.{◌≤◌, ◌≡◌};
 ghost use Rattle.test_operations.specs.Values as Values;
 
@@ -8,23 +10,23 @@ use frames::{
 };
 use numbers::{Angle, Length};
 
-pub fn angle(a: [u64; 32], at: usize) -> Angle
+pub fn angle(a: &[u64; 32], at: usize) -> Angle
     requires { at ≤ 31 }
-    ensures { result ≡ Values.angle_at a at }
+    ensures { result ≡ Values.angle_at a.now at }
 {
     Angle(double_at(a, at))
 }
 
-pub fn length(a: [u64; 32], at: usize) -> Length
+pub fn length(a: &[u64; 32], at: usize) -> Length
     requires { at ≤ 31 }
-    ensures { result ≡ Values.length_at a at }
+    ensures { result ≡ Values.length_at a.now at }
 {
     Length(double_at(a, at))
 }
 
 // Equatorial radius, polar radius, eccentricity, flattening: the first four words.
-pub fn ellipsoid(a: [u64; 32]) -> Ellipsoid
-    ensures { result ≡ Values.ellipsoid_at a }
+pub fn ellipsoid(a: &[u64; 32]) -> Ellipsoid
+    ensures { result ≡ Values.ellipsoid_at a.now }
 {
     Ellipsoid {
         equatorial_radius: length(a, 0),
@@ -34,9 +36,9 @@ pub fn ellipsoid(a: [u64; 32]) -> Ellipsoid
     }
 }
 
-pub fn geocentric(a: [u64; 32], at: usize) -> GeocentricPosition
+pub fn geocentric(a: &[u64; 32], at: usize) -> GeocentricPosition
     requires { at ≤ 29 }
-    ensures { result ≡ Values.geocentric_at a at }
+    ensures { result ≡ Values.geocentric_at a.now at }
 {
     GeocentricPosition {
         x: length(a, at),
@@ -46,9 +48,9 @@ pub fn geocentric(a: [u64; 32], at: usize) -> GeocentricPosition
 }
 
 // The n-vector, then the height.
-pub fn geodetic(a: [u64; 32], at: usize) -> GeodeticPosition
+pub fn geodetic(a: &[u64; 32], at: usize) -> GeodeticPosition
     requires { at ≤ 28 }
-    ensures { result ≡ Values.geodetic_at a at }
+    ensures { result ≡ Values.geodetic_at a.now at }
 {
     GeodeticPosition {
         hp: NVector(vector_at(a, at)),
@@ -69,16 +71,16 @@ fn orientation_of(n: u64) -> Orientation
 }
 
 // The first word's.
-pub fn orientation(a: [u64; 32]) -> Orientation
-    ensures { result ≡ Values.orientation_at a }
+pub fn orientation(a: &[u64; 32]) -> Orientation
+    ensures { result ≡ Values.orientation_at a.now }
 {
     orientation_of(a[0])
 }
 
 // The orientation is the first word's.
-pub fn local_vector(a: [u64; 32], at: usize) -> LocalVector
+pub fn local_vector(a: &[u64; 32], at: usize) -> LocalVector
     requires { at ≤ 29 }
-    ensures { result ≡ Values.local_at a at }
+    ensures { result ≡ Values.local_at a.now at }
 {
     LocalVector {
         x: length(a, at),
@@ -89,8 +91,8 @@ pub fn local_vector(a: [u64; 32], at: usize) -> LocalVector
 }
 
 // The first 22 words: orientation, origin, direction and inverse matrix.
-pub fn local_frame(a: [u64; 32]) -> LocalFrame
-    ensures { result ≡ Values.frame_at a }
+pub fn local_frame(a: &[u64; 32]) -> LocalFrame
+    ensures { result ≡ Values.frame_at a.now }
 {
     LocalFrame {
         origin: vector_at(a, 1),

@@ -1,4 +1,6 @@
 // Operations on frames. Where an operation takes an ellipsoid it is the first four words, where it takes a frame the first 22.
+#![tactic(auto, unfolding(crate::specs::Rows::answered, crate::specs::FramesTable::level_rows, crate::specs::FramesTable::turned_rows, crate::specs::FramesTable::led_rows, frames::specs::Frames::enu_from_geocentric, frames::specs::Frames::enu_from_geodetic, frames::specs::Frames::ned_from_geocentric, frames::specs::Frames::ned_from_geodetic, frames::specs::Frames::body_from_geocentric, frames::specs::Frames::body_from_geodetic, frames::specs::Frames::wander_azimuth_from_geocentric, frames::specs::Frames::wander_azimuth_from_geodetic, frames::specs::Frames::looking_at_geocentric, frames::specs::Frames::looking_at_geodetic))]
+
 ghost use Rattle.std.specs.Prelude.{◌≡◌};
 ghost use Rattle.frames.specs.Frames as Frames;
 ghost use Rattle.test_operations.specs.Words.{padded};
@@ -6,31 +8,30 @@ ghost use Rattle.test_operations.specs.Rows.{answered};
 ghost use Rattle.test_operations.specs.Values.{angle_at, local_at, frame_at};
 ghost use Rattle.test_operations.specs.FramesTable.{level_rows, turned_rows, led_rows};
 
-use crate::frames_answers as answers;
+use crate::answer::Answer;
 use crate::frames_inputs::{angle, ellipsoid, geocentric, geodetic, local_frame, local_vector};
 use crate::frames_radii::radii;
-use crate::words::matrix;
 use frames::LocalFrame;
 
 // Operations 37 to 40, and all that follow.
-pub fn levels(op: u64, a: [u64; 32]) -> [u64; 24]
-    ensures { result ≡ padded (answered level_rows op a) }
+pub fn levels(op: u64, a: &[u64; 32]) -> [u64; 24]
+    ensures { result ≡ padded (answered level_rows op a.now) }
 {
     let l = ellipsoid(a);
     let g = geocentric(a, 4);
     let d = geodetic(a, 4);
     match op {
-        37 => answers::local_frame(LocalFrame::enu(g, l)),
-        38 => answers::local_frame(LocalFrame::enu(d, l)),
-        39 => answers::local_frame(LocalFrame::ned(g, l)),
-        40 => answers::local_frame(LocalFrame::ned(d, l)),
+        37 => LocalFrame::enu(g, l).answer(),
+        38 => LocalFrame::enu(d, l).answer(),
+        39 => LocalFrame::ned(g, l).answer(),
+        40 => LocalFrame::ned(d, l).answer(),
         _ => turned(op, a),
     }
 }
 
 // Operations 41 to 46, and all that follow.
-fn turned(op: u64, a: [u64; 32]) -> [u64; 24]
-    ensures { result ≡ padded (answered turned_rows op a) }
+fn turned(op: u64, a: &[u64; 32]) -> [u64; 24]
+    ensures { result ≡ padded (answered turned_rows op a.now) }
 {
     let l = ellipsoid(a);
     let g = geocentric(a, 4);
@@ -40,35 +41,35 @@ fn turned(op: u64, a: [u64; 32]) -> [u64; 24]
     let at9 = angle(a, 9);
     let at10 = angle(a, 10);
     match op {
-        41 => answers::local_frame(LocalFrame::body(at7, at8, at9, g, l)),
-        42 => answers::local_frame(LocalFrame::body(at8, at9, at10, d, l)),
-        43 => answers::local_frame(LocalFrame::wander_azimuth(at7, g, l)),
-        44 => answers::local_frame(LocalFrame::wander_azimuth(at8, d, l)),
-        45 => answers::local_frame(LocalFrame::looking_at(g, geocentric(a, 7), at10, l)),
-        46 => answers::local_frame(LocalFrame::looking_at(d, geodetic(a, 8), angle(a, 12), l)),
+        41 => LocalFrame::body(at7, at8, at9, g, l).answer(),
+        42 => LocalFrame::body(at8, at9, at10, d, l).answer(),
+        43 => LocalFrame::wander_azimuth(at7, g, l).answer(),
+        44 => LocalFrame::wander_azimuth(at8, d, l).answer(),
+        45 => LocalFrame::looking_at(g, geocentric(a, 7), at10, l).answer(),
+        46 => LocalFrame::looking_at(d, geodetic(a, 8), angle(a, 12), l).answer(),
         _ => led(op, a),
     }
 }
 
 // Operations 47 to 53, and all that follow.
-fn led(op: u64, a: [u64; 32]) -> [u64; 24]
-    ensures { result ≡ padded (answered led_rows op a) }
+fn led(op: u64, a: &[u64; 32]) -> [u64; 24]
+    ensures { result ≡ padded (answered led_rows op a.now) }
 {
     let f = local_frame(a);
     match op {
-        47 => answers::local_frame(f.rotate_around_z(angle(a, 22))),
-        48 => matrix(f.local_to_earth_matrix()),
-        49 => matrix(f.earth_to_local_matrix()),
-        50 => answers::geocentric(f.origin()),
-        51 => answers::local_frame(transformed(a)),
-        52 => answers::local_vector(f.local_vector_to(geocentric(a, 22))),
-        53 => answers::geocentric(f.destination_position(local_vector(a, 22))),
+        47 => f.rotate_around_z(angle(a, 22)).answer(),
+        48 => f.local_to_earth_matrix().answer(),
+        49 => f.earth_to_local_matrix().answer(),
+        50 => f.origin().answer(),
+        51 => transformed(a).answer(),
+        52 => f.local_vector_to(geocentric(a, 22)).answer(),
+        53 => f.destination_position(local_vector(a, 22)).answer(),
         _ => radii(op, a),
     }
 }
 
-fn transformed(a: [u64; 32]) -> LocalFrame
-    ensures { result ≡ Frames.transform (frame_at a) (local_at a 22) (angle_at a 25) (angle_at a 26) (angle_at a 27) }
+fn transformed(a: &[u64; 32]) -> LocalFrame
+    ensures { result ≡ Frames.transform (frame_at a.now) (local_at a.now 22) (angle_at a.now 25) (angle_at a.now 26) (angle_at a.now 27) }
 {
     let offset = local_vector(a, 22);
     let yaw = angle(a, 25);

@@ -2,7 +2,9 @@
 // Inputs and outputs are bits. The tables of the operations are specs/NumbersTable.antt and specs/FramesTable.antt.
 #![tactic(auto)]
 
-pub mod frames_answers;
+pub mod answer;
+pub mod counts;
+mod frames_answers;
 pub mod frames_direct;
 pub mod frames_ellipsoids;
 mod frames_inputs;
@@ -33,11 +35,11 @@ ghost use Rattle.test_operations.specs.FramesTable as FramesTable;
 pub fn numbers_apply(op: u64, inputs: &[u64; 32], outputs: &mut [u64; 24])
     ensures { outputs.new ≡ padded (answered NumbersTable.table op inputs.now) }
 {
-    *outputs = numbers_floats::floats(op, *inputs);
+    *outputs = numbers_floats::floats(op, inputs);
 }
 
 pub fn frames_apply(op: u64, inputs: &[u64; 32], outputs: &mut [u64; 24])
     ensures { outputs.new ≡ padded (answered FramesTable.table op inputs.now) }
 {
-    *outputs = frames_positions::positions(op, *inputs);
+    *outputs = frames_positions::positions(op, inputs);
 }

@@ -1,26 +1,29 @@
 // Operations that make a value of its parts and take it apart again.
+#![tactic(auto, unfolding(crate::specs::Rows::answered, crate::specs::NumbersTable::part_rows, numbers::proofs::Computed::computed))]
+
 ghost use Rattle.std.specs.Prelude.{◌≡◌};
 ghost use Rattle.test_operations.specs.Words.{padded};
 ghost use Rattle.test_operations.specs.Rows.{answered};
 ghost use Rattle.test_operations.specs.NumbersTable.{part_rows};
 
+use crate::answer::Answer;
 use crate::numbers_quotients::quotients;
-use crate::words::{double_at, matrix, matrix_at, number, one, vector, vector_at};
+use crate::words::{double_at, matrix_at, vector_at};
 use numbers::{Angle, Length, Mat33, Vec3, float};
 
 // Operations 52 to 58, and all that follow.
-pub fn parts(op: u64, a: [u64; 32]) -> [u64; 24]
-    ensures { result ≡ padded (answered part_rows op a) }
+pub fn parts(op: u64, a: &[u64; 32]) -> [u64; 24]
+    ensures { result ≡ padded (answered part_rows op a.now) }
 {
     let x = double_at(a, 0);
     match op {
-        52 => vector(components(vector_at(a, 0))),
-        53 => matrix(rows(matrix_at(a, 0))),
-        54 => matrix(made(matrix_at(a, 0))),
-        55 => number(Angle::from_radians(x).as_radians()),
-        56 => number(Length::from_metres(x).as_metres()),
-        57 => one(float::sign_bit(x)),
-        58 => number(Length::ZERO.0),
+        52 => components(vector_at(a, 0)).answer(),
+        53 => rows(matrix_at(a, 0)).answer(),
+        54 => made(matrix_at(a, 0)).answer(),
+        55 => Angle::from_radians(x).as_radians().answer(),
+        56 => Length::from_metres(x).as_metres().answer(),
+        57 => float::sign_bit(x).answer(),
+        58 => Length::ZERO.answer(),
         _ => quotients(op, a),
     }
 }

@@ -2,7 +2,7 @@
 ghost use Rattle.std.specs.Prelude.{◌≡◌, ◌<◌, ◌≤◌, length, IfSome};
 ghost use Rattle.std.specs.Counts.{IsPrefixLen};
 
-use crate::tables::{apply, inputs_of, outputs_of};
+use crate::tables::{apply, counts};
 use test_cases::input::words;
 
 // The number of a decimal digit.
@@ -72,14 +72,13 @@ fn answered(s: &[u8], out: &mut [u8]) -> Option<usize>
     ensures len { length out.new ≡ length out.old }
 {
     let op = operation(s)?;
-    let outputs = outputs_of(op)?;
-    let count = inputs_of(op);
-    if s.len() != 3 + 17 * count {
+    let n = counts(op)?;
+    if s.len() != 3 + 17 * n.inputs {
         return None;
     }
-    let inputs = words(s, 3, count)?;
-    let answers = apply(op, inputs);
-    Some(answer(s, &answers[..outputs], out))
+    let inputs = words(s, 3, n.inputs)?;
+    let answers = apply(op, &inputs);
+    Some(answer(s, &answers[..n.outputs], out))
 }
 
 // The answer to a line, which is given without its LF, at the start of out: how many bytes it has, its LF with them.

@@ -1,28 +1,21 @@
 -- `test_operations::frames_local_frames::levels` answers the rows from 37 on. Assumes nothing.
-use mathlib.Core.Path.{sym, ap, ◌∙◌}
 use Rattle.frames.specs.Frames.{enu_from_geocentric, enu_from_geodetic, ned_from_geocentric, ned_from_geodetic}
 use Rattle.test_operations.specs.Rows.{answered}
 use Rattle.test_operations.specs.FramesTable.{level_rows}
-use Rattle.test_operations.specs.Words.{padded}
-use Rattle.test_operations.proofs.RowLaws.{skipped}
 use Rattle.test_operations.proofs.frames_local_frames.levels.Goals as goal
 
 pub returns-in-37 : goal.returns-in-37
 unfolding answered level_rows enu_from_geocentric
-returns-in-37 c = rw c.in-37.is (simp (c.local_frame.ensures, c.enu.ensures, c.geocentric-g.ensures, c.ellipsoid-l.ensures))
+returns-in-37 c = rw c.in-37.is (simp (c.answer.ensures, c.enu.ensures, c.geocentric-g.ensures, c.ellipsoid-l.ensures))
 
 pub returns-in-38 : goal.returns-in-38
 unfolding answered level_rows enu_from_geodetic
-returns-in-38 c = rw c.in-38.is (simp (c.local_frame-in-38.ensures, c.enu-in-38.ensures, c.geodetic-d.ensures, c.ellipsoid-l.ensures))
+returns-in-38 c = rw c.in-38.is (simp (c.answer-in-38.ensures, c.enu-in-38.ensures, c.geodetic-d.ensures, c.ellipsoid-l.ensures))
 
 pub returns-in-39 : goal.returns-in-39
 unfolding answered level_rows ned_from_geocentric
-returns-in-39 c = rw c.in-39.is (simp (c.local_frame-in-39.ensures, c.ned.ensures, c.geocentric-g.ensures, c.ellipsoid-l.ensures))
+returns-in-39 c = rw c.in-39.is (simp (c.answer-in-39.ensures, c.ned.ensures, c.geocentric-g.ensures, c.ellipsoid-l.ensures))
 
 pub returns-in-40 : goal.returns-in-40
 unfolding answered level_rows ned_from_geodetic
-returns-in-40 c = rw c.in-40.is (simp (c.local_frame-in-40.ensures, c.ned-in-40.ensures, c.geodetic-d.ensures, c.ellipsoid-l.ensures))
-
-pub returns-in_default : goal.returns-in_default
-unfolding answered level_rows
-returns-in_default c = c.turned.ensures ∙ ap padded (sym (skipped 4 level_rows _ _ c.in_default.in_default-own.rest).0)
+returns-in-40 c = rw c.in-40.is (simp (c.answer-in-40.ensures, c.ned-in-40.ensures, c.geodetic-d.ensures, c.ellipsoid-l.ensures))
