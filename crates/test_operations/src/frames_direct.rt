@@ -1,4 +1,4 @@
-// Functions of `frames` that the bench calls, numbers in and numbers out; test_operations_c hands them to C.
+// Functions of `frames` that the bench calls; test_operations_c hands them to C, so numbers and arrays of numbers go in and out.
 #![tactic(auto, unfolding(crate::specs::Direct::vector_from, crate::specs::Direct::matrix_from, crate::specs::Direct::frame_of, crate::specs::Direct::entries, frames::specs::Frames::enu_from_geodetic))]
 
 ghost use Rattle.std.specs.Prelude.{◌≤◌, ◌≡◌};

@@ -80,6 +80,7 @@ pub fn geodetic_at(a: &[u64; 32], at: usize) -> GeodeticPosition
 }
 
 // 0, 1, 2 and 3 are east-north-up, north-east-down, body and wander azimuth. Any other number is the last.
+// No `From`: neither type is this crate's.
 fn orientation_of(n: u64) -> Orientation
     ensures { result ≡ Values.orientation_of n }
 {

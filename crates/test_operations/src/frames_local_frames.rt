@@ -1,5 +1,5 @@
 // Operations on frames. Where an operation takes an ellipsoid it is the first four words, where it takes a frame the first 22.
-#![tactic(auto, unfolding(crate::specs::Rows::answered, crate::specs::FramesTable::level_rows, crate::specs::FramesTable::turned_rows, crate::specs::FramesTable::led_rows, frames::specs::Frames::enu_from_geocentric, frames::specs::Frames::enu_from_geodetic, frames::specs::Frames::ned_from_geocentric, frames::specs::Frames::ned_from_geodetic, frames::specs::Frames::body_from_geocentric, frames::specs::Frames::body_from_geodetic, frames::specs::Frames::wander_azimuth_from_geocentric, frames::specs::Frames::wander_azimuth_from_geodetic, frames::specs::Frames::looking_at_geocentric, frames::specs::Frames::looking_at_geodetic))]
+#![tactic(auto, unfolding(crate::specs::Rows::answered, crate::specs::FramesTable::level_rows, crate::specs::FramesTable::turned_rows, crate::specs::FramesTable::led_rows))]
 
 ghost use Rattle.std.specs.Prelude.{◌≡◌};
 ghost use Rattle.frames.specs.Frames as Frames;
