@@ -11,7 +11,7 @@ pub fn fill<R: Read>(from: &mut R, buf: &mut [u8]) -> io::Result<usize>
     ensures err { OnErr result (length buf.new ≡ length buf.old) }
 {
     let mut done: usize = 0;
-    // No range and no iterator: what a read gives is the step.
+    // No range and no iterator: what a read gives is the step. (`read_full` of test_cases is the same: a program stands on no test crate, and a crate for this alone would be no plainer.)
     while done < buf.len() {
         let n = from.read(&mut buf[done..])?;
         if n == 0 {

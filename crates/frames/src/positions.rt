@@ -155,6 +155,7 @@ impl LatLong {
         }
     }
 
+    // `from_nvector` and `to_nvector` are the Rust's, which has both besides its `From`.
     pub fn from_nvector(nvector: NVector) -> Self
         ensures { result ≡ nvector_to_latlong nvector.0 }
     {
@@ -165,9 +166,7 @@ impl LatLong {
     pub fn to_nvector(self) -> NVector
         ensures { result ≡ Positions.nvector (latlong_to_nvector self.latitude self.longitude) }
     {
-        let latitude = self.latitude;
-        let longitude = self.longitude;
-        NVector(latlong_to_nvector(latitude, longitude))
+        NVector::from_lat_long(self.latitude, self.longitude)
     }
 
     pub fn latitude(self) -> Angle

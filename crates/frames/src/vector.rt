@@ -114,7 +114,7 @@ impl LocalVector {
         Angle(heading).normalised()
     }
 
-    // East-north-up to north-east-down and back: `from` of the Rust, which has it for these two. Any other vector stays as it is.
+    // East-north-up to north-east-down and back: `from` of the Rust, which has it for these two. Any other vector stays as it is. A method and no `From`, since all are of one type here.
     #[tactic(auto, unfolding(crate::specs::Vectors::swap))]
     pub fn swap(self) -> Self
         ensures { result ≡ Vectors.swap self }

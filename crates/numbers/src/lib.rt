@@ -13,7 +13,7 @@ pub mod sine;
 mod units;
 pub mod vectors;
 
-// The derived `==` of these types is `angle_eq`, `vec_eq` and `mat_eq` of specs, by proofs/EqualLaws.antt.
+// The derived `==` of angles, vectors and matrices is `angle_eq`, `vec_eq` and `mat_eq` of specs, by proofs/EqualLaws.antt; that of lengths compares the numbers.
 
 // An angle: a wrapped number, in radians.
 #[derive(PartialEq, Clone, Copy, Debug)]

@@ -5,20 +5,14 @@ use sheets::reader::form::form;
 use sheets::reader::head::{HeadLine, head};
 use sheets::reader::lines::{LineHead, WholeLine, line_end, line_head};
 use std::io;
-use test_cases::print::{decimal, put};
+use test_cases::print::put;
 
 // `bad` and the first bad line, or `fine`, how many lines there are, and the lines.
 pub fn sheet(rt: &impl Print, s: &[u8]) -> io::Result<()> {
     match form(s) {
-        Err(number) => {
-            put(rt, b"bad ")?;
-            decimal(rt, number)?;
-            put(rt, b"\n")
-        }
+        Err(number) => println!(rt; "bad {number}"),
         Ok(count) => {
-            put(rt, b"fine ")?;
-            decimal(rt, count)?;
-            put(rt, b"\n")?;
+            println!(rt; "fine {count}")?;
             lines(rt, s, count)
         }
     }
@@ -72,7 +66,7 @@ fn whole(rt: &impl Print, line: WholeLine) -> io::Result<()> {
 
 // Another line: the place of the next one.
 fn other_line(rt: &impl Print, s: &[u8], at: usize) -> io::Result<usize> {
-    decimal(rt, at)?;
+    print!(rt; "{at}")?;
     match line_head(s, at) {
         None => put(rt, b" ?")?,
         Some(LineHead::Let(name, value)) => {

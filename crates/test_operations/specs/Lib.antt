@@ -1,4 +1,5 @@
 pub mod Words
+pub mod Entries
 pub mod Rows
 pub mod NumbersTable
 pub mod Values

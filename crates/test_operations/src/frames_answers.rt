@@ -97,7 +97,7 @@ impl Answer for Zyx {
     }
 }
 
-// The number of an orientation.
+// The number of an orientation. No `From`: neither type is this crate's.
 fn orientation(o: Orientation) -> u64
     ensures { result ≡ Values.orientation_number o }
 {

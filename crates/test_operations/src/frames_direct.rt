@@ -1,4 +1,4 @@
-// Functions of `frames` that the bench calls, numbers in and numbers out; test_operations_c hands them to C.
+// Functions of `frames` that the bench calls; test_operations_c hands them to C, so numbers and arrays of numbers go in and out.
 #![tactic(auto, unfolding(crate::specs::Direct::vector_from, crate::specs::Direct::matrix_from, crate::specs::Direct::frame_of, crate::specs::Direct::entries, frames::specs::Frames::enu_from_geodetic))]
 
 ghost use Rattle.std.specs.Prelude.{◌≤◌, ◌≡◌};
@@ -10,30 +10,9 @@ ghost use Rattle.test_operations.specs.Direct as Direct;
 ghost use Rattle.test_operations.specs.Direct.{ellipsoid_of, geodetic_of};
 ghost use Rattle.frames.specs.declared.Orientation.TheVariants.{Enu, Ned};
 
-use frames::{
-    Ellipsoid, GeocentricPosition, GeodeticPosition, LocalFrame, LocalVector, NVector, Orientation,
-};
-use numbers::{Length, Mat33, Vec3};
-
-fn ellipsoid(a: f64, b: f64, e: f64, f: f64) -> Ellipsoid
-    ensures { result ≡ ellipsoid_of a b e f }
-{
-    Ellipsoid {
-        equatorial_radius: Length(a),
-        polar_radius: Length(b),
-        eccentricity: e,
-        flattening: f,
-    }
-}
-
-fn geodetic(x: f64, y: f64, z: f64, height: f64) -> GeodeticPosition
-    ensures { result ≡ geodetic_of x y z height }
-{
-    GeodeticPosition {
-        hp: NVector(Vec3 { x, y, z }),
-        height: Length(height),
-    }
-}
+use crate::frames_inputs::{ellipsoid, geodetic};
+use crate::words::{matrix_at, vector_at};
+use frames::{GeocentricPosition, LocalFrame, LocalVector, Orientation};
 
 // The ellipsoid's four fields, then the n-vector and the height.
 pub fn frames_to_geocentric(
@@ -107,40 +86,18 @@ fn entries(f: LocalFrame) -> [f64; 21]
 pub fn frames_vector_to(f: &[f64; 21], x: f64, y: f64, z: f64, out: &mut [f64; 3])
     ensures { out.new ≡ Direct.components (local_vector_to (Direct.frame_of f.now) (geocentric_from_metres x y z)) }
 {
-    let v = frame(*f).local_vector_to(GeocentricPosition::from_metres(x, y, z));
+    let v = frame(f).local_vector_to(GeocentricPosition::from_metres(x, y, z));
     *out = [v.x.0, v.y.0, v.z.0];
 }
 
-fn frame(f: [f64; 21]) -> LocalFrame
-    ensures { result ≡ Direct.frame_of f }
+fn frame(f: &[f64; 21]) -> LocalFrame
+    ensures { result ≡ Direct.frame_of f.now }
 {
     LocalFrame {
-        origin: three(f, 0),
-        dir_rm: nine(f, 3),
-        inv_rm: nine(f, 12),
+        origin: vector_at(f, 0),
+        dir_rm: matrix_at(f, 3),
+        inv_rm: matrix_at(f, 12),
         orientation: Orientation::Enu,
-    }
-}
-
-fn three(f: [f64; 21], at: usize) -> Vec3
-    requires { at ≤ 18 }
-    ensures { result ≡ Direct.vector_from f at }
-{
-    Vec3 {
-        x: f[at],
-        y: f[at + 1],
-        z: f[at + 2],
-    }
-}
-
-fn nine(f: [f64; 21], at: usize) -> Mat33
-    requires { at ≤ 12 }
-    ensures { result ≡ Direct.matrix_from f at }
-{
-    Mat33 {
-        r0: three(f, at),
-        r1: three(f, at + 3),
-        r2: three(f, at + 6),
     }
 }
 

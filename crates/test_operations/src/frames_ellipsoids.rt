@@ -1,5 +1,5 @@
 // Operations on ellipsoids. The ellipsoid is the first four words.
-#![tactic(auto, unfolding(crate::specs::Rows::answered, crate::specs::FramesTable::ellipsoid_rows, frames::specs::Ellipsoids::wgs84, numbers::proofs::Computed::computed))]
+#![tactic(auto, unfolding(crate::specs::Rows::answered, crate::specs::FramesTable::ellipsoid_rows, frames::specs::Ellipsoids::wgs84, numbers::proofs::Computed::computed, crate::specs::Words::vector_at, crate::specs::Words::double_at))]
 
 ghost use Rattle.std.specs.Prelude.{◌≡◌};
 ghost use Rattle.numbers.specs.Ops.{◌⊕◌};
@@ -10,7 +10,7 @@ ghost use Rattle.numbers.specs.Vec.{raw};
 ghost use Rattle.test_operations.specs.FramesTable.{ellipsoid_rows};
 
 use crate::answer::Answer;
-use crate::frames_inputs::{ellipsoid, geocentric, geodetic, length};
+use crate::frames_inputs::{ellipsoid_at, geocentric_at, geodetic_at, length_at};
 use crate::frames_vectors::vectors;
 use crate::words::{double_at, vector_at};
 use frames::Ellipsoid;
@@ -20,14 +20,18 @@ use numbers::Vec3;
 pub fn ellipsoids(op: u64, a: &[u64; 32]) -> [u64; 24]
     ensures { result ≡ padded (answered ellipsoid_rows op a.now) }
 {
-    let l = ellipsoid(a);
+    let l = ellipsoid_at(a);
     match op {
-        10 => Ellipsoid::new(length(a, 0), double_at(a, 1)).answer(),
+        10 => Ellipsoid::new(length_at(a, 0), double_at(a, 1)).answer(),
         11 => Ellipsoid::WGS84.answer(),
         12 => Ellipsoid::wgs84().answer(),
         13 => figures(l).answer(),
-        14 => l.geodetic_to_geocentric_position(geodetic(a, 4)).answer(),
-        15 => l.geocentric_to_geodetic_position(geocentric(a, 4)).answer(),
+        14 => l
+            .geodetic_to_geocentric_position(geodetic_at(a, 4))
+            .answer(),
+        15 => l
+            .geocentric_to_geodetic_position(geocentric_at(a, 4))
+            .answer(),
         16 => centre(l, vector_at(a, 4)).answer(),
         _ => vectors(op, a),
     }

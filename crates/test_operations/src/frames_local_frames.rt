@@ -1,5 +1,5 @@
 // Operations on frames. Where an operation takes an ellipsoid it is the first four words, where it takes a frame the first 22.
-#![tactic(auto, unfolding(crate::specs::Rows::answered, crate::specs::FramesTable::level_rows, crate::specs::FramesTable::turned_rows, crate::specs::FramesTable::led_rows, frames::specs::Frames::enu_from_geocentric, frames::specs::Frames::enu_from_geodetic, frames::specs::Frames::ned_from_geocentric, frames::specs::Frames::ned_from_geodetic, frames::specs::Frames::body_from_geocentric, frames::specs::Frames::body_from_geodetic, frames::specs::Frames::wander_azimuth_from_geocentric, frames::specs::Frames::wander_azimuth_from_geodetic, frames::specs::Frames::looking_at_geocentric, frames::specs::Frames::looking_at_geodetic))]
+#![tactic(auto, unfolding(crate::specs::Rows::answered, crate::specs::FramesTable::level_rows, crate::specs::FramesTable::turned_rows, crate::specs::FramesTable::led_rows))]
 
 ghost use Rattle.std.specs.Prelude.{◌≡◌};
 ghost use Rattle.frames.specs.Frames as Frames;
@@ -9,7 +9,9 @@ ghost use Rattle.test_operations.specs.Values.{angle_at, local_at, frame_at};
 ghost use Rattle.test_operations.specs.FramesTable.{level_rows, turned_rows, led_rows};
 
 use crate::answer::Answer;
-use crate::frames_inputs::{angle, ellipsoid, geocentric, geodetic, local_frame, local_vector};
+use crate::frames_inputs::{
+    angle_at, ellipsoid_at, frame_at, geocentric_at, geodetic_at, local_at,
+};
 use crate::frames_radii::radii;
 use frames::LocalFrame;
 
@@ -17,9 +19,9 @@ use frames::LocalFrame;
 pub fn levels(op: u64, a: &[u64; 32]) -> [u64; 24]
     ensures { result ≡ padded (answered level_rows op a.now) }
 {
-    let l = ellipsoid(a);
-    let g = geocentric(a, 4);
-    let d = geodetic(a, 4);
+    let l = ellipsoid_at(a);
+    let g = geocentric_at(a, 4);
+    let d = geodetic_at(a, 4);
     match op {
         37 => LocalFrame::enu(g, l).answer(),
         38 => LocalFrame::enu(d, l).answer(),
@@ -33,20 +35,20 @@ pub fn levels(op: u64, a: &[u64; 32]) -> [u64; 24]
 fn turned(op: u64, a: &[u64; 32]) -> [u64; 24]
     ensures { result ≡ padded (answered turned_rows op a.now) }
 {
-    let l = ellipsoid(a);
-    let g = geocentric(a, 4);
-    let d = geodetic(a, 4);
-    let at7 = angle(a, 7);
-    let at8 = angle(a, 8);
-    let at9 = angle(a, 9);
-    let at10 = angle(a, 10);
+    let l = ellipsoid_at(a);
+    let g = geocentric_at(a, 4);
+    let d = geodetic_at(a, 4);
+    let at7 = angle_at(a, 7);
+    let at8 = angle_at(a, 8);
+    let at9 = angle_at(a, 9);
+    let at10 = angle_at(a, 10);
     match op {
         41 => LocalFrame::body(at7, at8, at9, g, l).answer(),
         42 => LocalFrame::body(at8, at9, at10, d, l).answer(),
         43 => LocalFrame::wander_azimuth(at7, g, l).answer(),
         44 => LocalFrame::wander_azimuth(at8, d, l).answer(),
-        45 => LocalFrame::looking_at(g, geocentric(a, 7), at10, l).answer(),
-        46 => LocalFrame::looking_at(d, geodetic(a, 8), angle(a, 12), l).answer(),
+        45 => LocalFrame::looking_at(g, geocentric_at(a, 7), at10, l).answer(),
+        46 => LocalFrame::looking_at(d, geodetic_at(a, 8), angle_at(a, 12), l).answer(),
         _ => led(op, a),
     }
 }
@@ -55,15 +57,15 @@ fn turned(op: u64, a: &[u64; 32]) -> [u64; 24]
 fn led(op: u64, a: &[u64; 32]) -> [u64; 24]
     ensures { result ≡ padded (answered led_rows op a.now) }
 {
-    let f = local_frame(a);
+    let f = frame_at(a);
     match op {
-        47 => f.rotate_around_z(angle(a, 22)).answer(),
+        47 => f.rotate_around_z(angle_at(a, 22)).answer(),
         48 => f.local_to_earth_matrix().answer(),
         49 => f.earth_to_local_matrix().answer(),
         50 => f.origin().answer(),
         51 => transformed(a).answer(),
-        52 => f.local_vector_to(geocentric(a, 22)).answer(),
-        53 => f.destination_position(local_vector(a, 22)).answer(),
+        52 => f.local_vector_to(geocentric_at(a, 22)).answer(),
+        53 => f.destination_position(local_at(a, 22)).answer(),
         _ => radii(op, a),
     }
 }
@@ -71,9 +73,9 @@ fn led(op: u64, a: &[u64; 32]) -> [u64; 24]
 fn transformed(a: &[u64; 32]) -> LocalFrame
     ensures { result ≡ Frames.transform (frame_at a.now) (local_at a.now 22) (angle_at a.now 25) (angle_at a.now 26) (angle_at a.now 27) }
 {
-    let offset = local_vector(a, 22);
-    let yaw = angle(a, 25);
-    let pitch = angle(a, 26);
-    let roll = angle(a, 27);
-    local_frame(a).transform(offset, yaw, pitch, roll)
+    let offset = local_at(a, 22);
+    let yaw = angle_at(a, 25);
+    let pitch = angle_at(a, 26);
+    let roll = angle_at(a, 27);
+    frame_at(a).transform(offset, yaw, pitch, roll)
 }

@@ -1,5 +1,5 @@
 // Operations on positions.
-#![tactic(auto, unfolding(crate::specs::Rows::answered, crate::specs::FramesTable::table, crate::specs::Words::vector_at, crate::specs::Values::geocentric_at))]
+#![tactic(auto, unfolding(crate::specs::Rows::answered, crate::specs::FramesTable::table, crate::specs::Words::vector_at, crate::specs::Values::geocentric_at, crate::specs::Words::double_at))]
 
 ghost use Rattle.std.specs.Prelude.{◌≡◌};
 ghost use Rattle.frames.specs.Positions.{lat_long};
@@ -10,7 +10,7 @@ ghost use Rattle.test_operations.specs.FramesTable.{table};
 
 use crate::answer::Answer;
 use crate::frames_ellipsoids::ellipsoids;
-use crate::frames_inputs::{angle, geocentric, length};
+use crate::frames_inputs::{angle_at, geocentric_at, length_at};
 use crate::words::vector_at;
 use frames::positions::PositionVector;
 use frames::{GeocentricPosition, GeodeticPosition, LatLong, NVector};
@@ -20,14 +20,14 @@ pub fn positions(op: u64, a: &[u64; 32]) -> [u64; 24]
     ensures { result ≡ padded (answered table op a.now) }
 {
     let v = vector_at(a, 0);
-    let g = geocentric(a, 0);
+    let g = geocentric_at(a, 0);
     let l = lat_long(a);
     match op {
         0 => coordinates(GeocentricPosition::new(g.x, g.y, g.z)).answer(),
         1 => GeocentricPosition::from_metres(v.x, v.y, v.z).answer(),
         2 => GeocentricPosition::from_vec3_metres(v).answer(),
         3 => g.as_metres().answer(),
-        4 => parts(GeodeticPosition::new(NVector(v), length(a, 3))).answer(),
+        4 => parts(GeodeticPosition::new(NVector(v), length_at(a, 3))).answer(),
         5 => angles(LatLong::new(l.latitude, l.longitude)).answer(),
         6 => LatLong::from_nvector(NVector(v)).answer(),
         7 => l.to_nvector().answer(),
@@ -69,8 +69,8 @@ fn angles(l: LatLong) -> LatLong
 fn lat_long(a: &[u64; 32]) -> LatLong
     ensures { result ≡ lat_long (Values.angle_at a.now 0) (Values.angle_at a.now 1) }
 {
-    let latitude = angle(a, 0);
-    let longitude = angle(a, 1);
+    let latitude = angle_at(a, 0);
+    let longitude = angle_at(a, 1);
     LatLong {
         latitude,
         longitude,

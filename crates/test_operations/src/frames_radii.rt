@@ -7,22 +7,22 @@ ghost use Rattle.test_operations.specs.Rows.{answered};
 ghost use Rattle.test_operations.specs.FramesTable.{radius_rows};
 
 use crate::answer::Answer;
-use crate::frames_inputs::{angle, ellipsoid, local_vector};
+use crate::frames_inputs::{angle_at, ellipsoid_at, local_at};
 use crate::words::double_at;
 
 // Operations 54 to 59. All zeros where there is no such operation.
 pub fn radii(op: u64, a: &[u64; 32]) -> [u64; 24]
     ensures { result ≡ padded (answered radius_rows op a.now) }
 {
-    let l = ellipsoid(a);
-    let latitude = angle(a, 4);
+    let l = ellipsoid_at(a);
+    let latitude = angle_at(a, 4);
     match op {
         54 => l.geocentric_radius(latitude).answer(),
         55 => l.latitude_radius(latitude).answer(),
         56 => l.prime_vertical_radius(latitude).answer(),
         57 => l.meridian_radius(latitude).answer(),
         58 => l.mean_radius().answer(),
-        59 => (local_vector(a, 1) / double_at(a, 4)).answer(),
+        59 => (local_at(a, 1) / double_at(a, 4)).answer(),
         _ => [0u64; 24],
     }
 }

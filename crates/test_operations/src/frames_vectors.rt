@@ -1,5 +1,5 @@
 // Operations on local vectors.
-#![tactic(auto, unfolding(crate::specs::Rows::answered, crate::specs::FramesTable::vector_rows, crate::specs::FramesTable::combined_rows, crate::specs::Words::vector_at, crate::specs::Values::angle_at, crate::specs::Values::length_at, crate::specs::Values::local_at))]
+#![tactic(auto, unfolding(crate::specs::Rows::answered, crate::specs::FramesTable::vector_rows, crate::specs::FramesTable::combined_rows, crate::specs::Words::vector_at, crate::specs::Values::angle_at, crate::specs::Values::length_at, crate::specs::Values::local_at, crate::specs::Words::double_at))]
 
 ghost use Rattle.std.specs.Prelude.{◌≡◌};
 ghost use Rattle.test_operations.specs.Words.{padded};
@@ -8,7 +8,7 @@ ghost use Rattle.numbers.specs.Vec.{raw};
 ghost use Rattle.test_operations.specs.FramesTable.{vector_rows, combined_rows};
 
 use crate::answer::Answer;
-use crate::frames_inputs::{local_vector, orientation};
+use crate::frames_inputs::{local_at, orientation_at};
 use crate::frames_rotations::rotations;
 use crate::words::vector_at;
 use frames::LocalVector;
@@ -19,7 +19,7 @@ use numbers::{Angle, Length, Vec3};
 pub fn vectors(op: u64, a: &[u64; 32]) -> [u64; 24]
     ensures { result ≡ padded (answered vector_rows op a.now) }
 {
-    let o = orientation(a);
+    let o = orientation_at(a);
     let v = vector_at(a, 1);
     match op {
         17 => LocalVector::zero(o).answer(),
@@ -45,8 +45,8 @@ fn components(v: LocalVector) -> Vec3
 fn combined(op: u64, a: &[u64; 32]) -> [u64; 24]
     ensures { result ≡ padded (answered combined_rows op a.now) }
 {
-    let v = local_vector(a, 1);
-    let w = local_vector(a, 4);
+    let v = local_at(a, 1);
+    let w = local_at(a, 4);
     match op {
         22 => v.as_metres().answer(),
         23 => v.slant_range().answer(),

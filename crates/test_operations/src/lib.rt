@@ -1,5 +1,6 @@
 // Every operation of `numbers` and of `frames` under a number, for the comparison with the Rust and for replaying its recorded answers.
 // Inputs and outputs are bits. The tables of the operations are specs/NumbersTable.antt and specs/FramesTable.antt.
+// An operation goes by its number, and is picked by a `match` on it, since C calls it by that number and recorded inputs name it so.
 #![tactic(auto)]
 
 pub mod answer;

@@ -1,5 +1,5 @@
 // Operations on matrices, and the constants.
-#![tactic(auto, using(numbers::proofs::EqualLaws::equal_matrices), unfolding(crate::specs::Rows::answered, crate::specs::NumbersTable::matrix_rows, crate::specs::Words::padded, crate::specs::Words::with_vector, crate::specs::NumbersTable::angle_constants, crate::specs::NumbersTable::vector_constants, numbers::proofs::Computed::computed))]
+#![tactic(auto, using(numbers::proofs::EqualLaws::equal_matrices), unfolding(crate::specs::Rows::answered, crate::specs::NumbersTable::matrix_rows, crate::specs::Words::padded, crate::specs::Words::with_vector, crate::specs::NumbersTable::angle_constants, crate::specs::NumbersTable::vector_constants, numbers::proofs::Computed::computed, crate::specs::Words::vector_at, crate::specs::Words::matrix_at, crate::specs::Words::double_at))]
 
 ghost use Rattle.std.specs.Prelude.{◌≡◌};
 ghost use Rattle.test_operations.specs.Words.{padded};
@@ -32,13 +32,10 @@ fn angle_constants() -> [u64; 24]
     ensures { result ≡ padded angle_constants }
 {
     let mut out = [0u64; 24];
-    out[0] = bits(Angle::ZERO.0);
-    out[1] = bits(Angle::QUARTER_CIRCLE.0);
-    out[2] = bits(Angle::NEG_QUARTER_CIRCLE.0);
-    out[3] = bits(Angle::HALF_CIRCLE.0);
-    out[4] = bits(Angle::NEG_HALF_CIRCLE.0);
-    out[5] = bits(Angle::FULL_CIRCLE.0);
-    out[6] = bits(Angle::DBL_EPSILON.0);
+    let angles = Angle::constants();
+    for (i, angle) in angles.iter().enumerate() {
+        out[i] = bits(angle.0);
+    }
     out
 }
 
@@ -46,12 +43,9 @@ fn vector_constants() -> [u64; 24]
     ensures { result ≡ padded vector_constants }
 {
     let mut out = [0u64; 24];
-    put_vector(&mut out, 0, Vec3::UNIT_X);
-    put_vector(&mut out, 3, Vec3::UNIT_Y);
-    put_vector(&mut out, 6, Vec3::UNIT_Z);
-    put_vector(&mut out, 9, Vec3::NEG_UNIT_X);
-    put_vector(&mut out, 12, Vec3::NEG_UNIT_Y);
-    put_vector(&mut out, 15, Vec3::NEG_UNIT_Z);
-    put_vector(&mut out, 18, Vec3::ZERO);
+    let vectors = Vec3::constants();
+    for (i, v) in vectors.iter().enumerate() {
+        put_vector(&mut out, 3 * i, *v);
+    }
     out
 }

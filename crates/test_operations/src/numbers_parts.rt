@@ -1,5 +1,5 @@
 // Operations that make a value of its parts and take it apart again.
-#![tactic(auto, unfolding(crate::specs::Rows::answered, crate::specs::NumbersTable::part_rows, numbers::proofs::Computed::computed))]
+#![tactic(auto, unfolding(crate::specs::Rows::answered, crate::specs::NumbersTable::part_rows, numbers::proofs::Computed::computed, crate::specs::Words::vector_at, crate::specs::Words::matrix_at, crate::specs::Words::double_at))]
 
 ghost use Rattle.std.specs.Prelude.{◌≡◌};
 ghost use Rattle.test_operations.specs.Words.{padded};

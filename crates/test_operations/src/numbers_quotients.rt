@@ -1,5 +1,5 @@
 // Quotients by a number, and the sum of two lengths.
-#![tactic(auto, unfolding(crate::specs::Rows::answered, crate::specs::NumbersTable::quotient_rows, crate::specs::Words::padded))]
+#![tactic(auto, unfolding(crate::specs::Rows::answered, crate::specs::NumbersTable::quotient_rows, crate::specs::Words::padded, crate::specs::Words::vector_at, crate::specs::Words::double_at))]
 
 ghost use Rattle.std.specs.Prelude.{◌≡◌};
 ghost use Rattle.test_operations.specs.Words.{padded};

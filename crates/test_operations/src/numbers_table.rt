@@ -1,5 +1,4 @@
 // The operations of `numbers` by their numbers: how many words each takes and answers.
-// The numbers stay numbers: C calls the operations by them, and recorded inputs name them.
 ghost use Rattle.std.specs.Prelude.{◌≤◌, IfSome};
 
 use crate::counts::Counts;

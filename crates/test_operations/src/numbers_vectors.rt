@@ -1,5 +1,5 @@
 // Operations on vectors.
-#![tactic(auto, unfolding(crate::specs::Rows::answered, crate::specs::NumbersTable::vector_rows, crate::specs::Words::vector_at))]
+#![tactic(auto, unfolding(crate::specs::Rows::answered, crate::specs::NumbersTable::vector_rows, crate::specs::Words::vector_at, crate::specs::Words::double_at))]
 
 ghost use Rattle.std.specs.Prelude.{◌≡◌};
 ghost use Rattle.test_operations.specs.Words.{padded};

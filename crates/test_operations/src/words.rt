@@ -1,7 +1,10 @@
 // Words taken and put in place. A double goes by its bits; every NaN is 7ff8000000000000.
-#![tactic(auto, unfolding(crate::specs::Words::double_at, crate::specs::Words::vector_at, crate::specs::Words::matrix_at, crate::specs::Words::with_vector, crate::specs::Words::with_matrix))]
+#![tactic(auto, unfolding(crate::specs::Words::double_at, crate::specs::Words::with_vector, crate::specs::Words::with_matrix))]
 
-ghost use Rattle.std.specs.Prelude.{◌≤◌, ◌≡◌};
+ghost use Rattle.std.specs.Prelude.{◌≤◌, ◌<◌, ◌+◌, ◌≡◌, Float, length};
+ghost use Rattle.std.specs.Float.{binary64, nan};
+ghost use Rattle.std.specs.Float.Ieee.{of_bits};
+ghost use Rattle.test_operations.specs.Entries.{vector_by, matrix_by};
 ghost use Rattle.test_operations.specs.Words as Words;
 
 use numbers::float::{bits, double};
@@ -15,21 +18,52 @@ pub fn double_at(a: &[u64; 32], at: usize) -> f64
     double(a[at])
 }
 
-// The vector of three words from a place on, as they stand.
-pub fn vector_at(a: &[u64; 32], at: usize) -> Vec3
-    requires { at ≤ 29 }
-    ensures { result ≡ Words.vector_at a.now at }
+// A number as an array holds it: a double itself, or the word of its bits.
+pub trait Entry: Copy {
+    ghost double_of: { Self → Float };
+
+    // What clauses take for an entry past an array's end.
+    ghost past: { Self };
+
+    fn double(self) -> f64
+        ensures { result ≡ double_of self };
+}
+
+impl Entry for f64 {
+    ghost double_of = { λ x. x };
+
+    ghost past = { nan };
+
+    fn double(self) -> f64 {
+        self
+    }
+}
+
+impl Entry for u64 {
+    ghost double_of = { of_bits binary64 };
+
+    ghost past = { 0 };
+
+    fn double(self) -> f64 {
+        double(self)
+    }
+}
+
+// The vector of three entries from a place on, as they stand.
+pub fn vector_at<T: Entry>(a: &[T], at: usize) -> Vec3
+    requires { at + 2 < length a.now }
+    ensures { result ≡ vector_by T.double_of T.past a.now at }
 {
-    let x = double_at(a, at);
-    let y = double_at(a, at + 1);
-    let z = double_at(a, at + 2);
+    let x = a[at].double();
+    let y = a[at + 1].double();
+    let z = a[at + 2].double();
     Vec3 { x, y, z }
 }
 
-// The matrix of nine words from a place on, by rows, as they stand.
-pub fn matrix_at(a: &[u64; 32], at: usize) -> Mat33
-    requires { at ≤ 23 }
-    ensures { result ≡ Words.matrix_at a.now at }
+// The matrix of nine entries from a place on, by rows, as they stand.
+pub fn matrix_at<T: Entry>(a: &[T], at: usize) -> Mat33
+    requires { at + 8 < length a.now }
+    ensures { result ≡ matrix_by T.double_of T.past a.now at }
 {
     let r0 = vector_at(a, at);
     let r1 = vector_at(a, at + 3);

@@ -32,7 +32,7 @@ fn glyph(d: u64) -> u8 {
 }
 
 // The last hexadecimal digits of a word, as many as there are places.
-// By hand: a format would write each word apart, and a line goes out in one write.
+// By hand, since the places are lent: the library's formats write to a text or a stream.
 fn put_digits(places: &mut [u8], x: u64) {
     let mut rest = x;
     for place in places.iter_mut().rev() {

@@ -46,7 +46,7 @@ fn next(rt: &impl Print, input: &mut impl Read) -> io::Result<bool> {
     Ok(fine)
 }
 
-// Nothing says that the input ends, so the sheets are counted, to a number that no run uses up.
+// Nothing says that the input ends, so the sheets are counted, to a number that no run uses up. (As in test_forms: one function for both would be handed a closure over the output and the input, and be no plainer.)
 fn main(rt: HostRuntime) -> io::Result<()> {
     let mut input = rt.stdin();
     for _ in 0..u64::MAX {
