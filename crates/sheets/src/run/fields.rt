@@ -1,5 +1,5 @@
 // Fields of an output line: a space and the 16 hexadecimal digits of a double's bits, stored in a lent buffer.
-// The buffer and the place in it are two arguments: a struct over the lent buffer was tried, and proved, and the run of a sheet of shows took up to twice the instructions.
+// The buffer and the place in it are two arguments: a struct over the lent buffer was tried, and proved, and one sort of sheet then took more than twice the instructions of a run.
 ghost use Rattle.std.specs.Prelude.{◌≡◌, [], ◌∷◌, ◌+◌, ◌*◌, ◌<◌, ◌≤◌, length};
 ghost use Rattle.sheets.specs.Output.{hex, fields_text};
 ghost use Rattle.sheets.specs.code.run.Writing.{Written};
