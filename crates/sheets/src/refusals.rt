@@ -35,7 +35,7 @@ impl Refusal {
     }
 }
 
-// A refusal and its line, counted from 1; 0 where it names none.
+// A refusal and its line, counted from 1; 0 where it names none, as in document 01's answers.
 #[derive(Clone, Copy, Debug, PartialEq, Eq)]
 pub struct Refused {
     pub refusal: Refusal,

@@ -17,7 +17,7 @@ use crate::refusals::{Refusal, Refused};
 use crate::rows::kinds::opens;
 use frames::Ellipsoid;
 
-// Of a line that passes: the code of its word, 0 for none, its kind code, and the place of the next line.
+// Of a line that passes: the code of its word, 0 for none, as `Names` stores it, its kind code, and the place of the next line.
 #[derive(Clone, Copy)]
 pub struct LineKind {
     pub code: u64,

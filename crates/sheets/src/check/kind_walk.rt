@@ -49,6 +49,7 @@ pub fn kind_at(s: &[u8], at: usize, depth: usize, names: &Names) -> Result<(u8, 
 }
 
 // The kinds of a bracket's arguments as one number, as `kind_of_row` takes it, from the place after its word; and the place after the bracket.
+// `bracket` of run/eval.rt goes over them in the same way: a loop for both would call back into either cycle of calls by a closure, with the clauses beside it once more.
 #[cycle(gather_kind_at)]
 fn gather(s: &[u8], at: usize, depth: usize, names: &Names) -> Result<(u64, usize), Refusal>
     ensures { ForKnown names.now (λ ps. ArgsHave s.now at depth 5 0 ps result) }

@@ -7,6 +7,8 @@ use crate::reader::words;
 
 // `words` has the words' codes and `kinds` their kinds' codes, each at the word's place; at the first place, 0, stands no word.
 // `newest` says where the search for a word begins, so that it does not go over every word before it: for each remainder of the words' codes by 512 the newest place of a word that has it, 0 for none.
+// Kinds go by their codes, here and wherever they are worked out: `kinds` is what the check lays into the kind list that C lends, which has 254 and 255 besides.
+// Three arrays and no map: there is no heap, and `newest` is what a map would be here.
 // It is 1,376 bytes: it is lent, and nothing takes it by value.
 #[derive(Drop)]
 pub struct Names {

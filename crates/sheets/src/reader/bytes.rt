@@ -12,7 +12,7 @@ pub fn byte(s: &[u8], at: usize) -> u8
     if at < s.len() { s[at] } else { 0 }
 }
 
-// Whether the bytes of w stand at a place.
+// Whether the bytes of w stand at a place. A loop: `starts_with` of the rest was tried, and the proof of the clause did not close.
 pub(crate) fn stands(s: &[u8], at: usize, w: &[u8]) -> bool
     ensures { result ≡ stands_at w.now s.now at }
 {

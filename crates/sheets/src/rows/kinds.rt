@@ -1,6 +1,6 @@
 // The kind of a bracket, by the code of its word and its arguments' kinds, and whether a word is an operator's.
 // The kinds met are one number, a hexadecimal digit each: 1 n, 2 a, 3 l, 4 g, 5 d, 6 venu, 7 vned, 8 vbody, 9 vwan, a fenu, b fned, c fbody, d fwan.
-// A kind is answered by its code, one less than its digit.
+// A kind is answered by its code, one less than its digit. As one number the kinds of a row are matched by a literal that shows them.
 ghost use Rattle.std.specs.Prelude.{◌≡◌, Option, Some, None, eqb};
 ghost use mir.Val.{has_key};
 ghost use Rattle.sheets.specs.Table.{when, table};

@@ -68,7 +68,7 @@ pub fn eval(
     ensures { EvalsWith s.now at depth e names.now floats.old top result floats.new }
 {
     let b = byte(s, at);
-    if b == 40 {
+    if b == b'(' {
         if depth == 0 {
             return Err(Halt::Sticks);
         }
@@ -99,7 +99,7 @@ pub fn bracket(
     let mut i = at;
     let mut key: u64 = 0;
     for n in 0..5usize {
-        if byte(s, i) != 32 {
+        if byte(s, i) != b' ' {
             break;
         }
         let room = top + 21 * n;
@@ -107,7 +107,7 @@ pub fn bracket(
         key = key * 16 + kind as u64 + 1;
         i = end;
     }
-    if byte(s, i) == 41 {
+    if byte(s, i) == b')' {
         return apply(e, code, key, floats, top, i + 1);
     }
     Err(Halt::Sticks)

@@ -1,5 +1,8 @@
 // Values as floats on a list, which is lent whole: a value is its kind and the place where its floats begin.
 // A frame takes 21 floats, a value of another kind the first few of 21.
+// The list and the place are two arguments: a struct round the list would add a name to each clause and take none away, since its length is its type's.
+// What has room behind a place differs from caller to caller (21, 105, and 84 for a bracket in another), so it stays a clause.
+// A function for each kind, a line each, answers its value: a match over the kind would be taken where the kind is known.
 ghost use Rattle.std.specs.Prelude.{◌≡◌, [], ◌∷◌, ◌+◌, ◌≤◌};
 ghost use Rattle.sheets.specs.Kinds.{number, angle, len, geocentric, geodetic, vector, frame};
 ghost use Rattle.sheets.specs.Limits.{in_limit};
