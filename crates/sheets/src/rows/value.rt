@@ -4,7 +4,7 @@ ghost use Rattle.sheets.specs.code.run.Slots.{empty_slot};
 
 use crate::Value;
 
-// A place in the table of names: a word's code, 0 where the place is empty, and the word's value.
+// A place in the table of names: a word's code, 0 where the place is empty, and the word's value. No Option of a slot: document 01 has "96 slots filled alike at the start", structs of word and value.
 #[derive(Clone, Copy)]
 pub struct Slot {
     pub word: u64,

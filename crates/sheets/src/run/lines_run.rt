@@ -54,7 +54,7 @@ fn stopped(halt: Halt, line: usize, written: usize) -> RunAnswer
 }
 
 // The lines from line 2, which stands at `from`. The number of the line at `at` is `line` + 1 before its turn and `line` in it, stepped at each LF.
-// The table of names stays here; slot 0 stays empty. `names` have its words and kinds and `floats` its values, each at its slot's place, for the evaluator.
+// The table of names, which document 01 wants as 96 slots of word and value beside whatever else there is, stays here; slot 0 stays empty. `names` have its words and kinds and `floats` its values, each at its slot's place, for the evaluator.
 // A place kept in `shown` is never given to another name: so the position stays where it lies among the floats.
 pub fn run_lines(s: &[u8], from: usize, e: Ellipsoid, readings: &[f64], out: &mut [u8]) -> RunAnswer
     requires { 2 ≡ line_number s.now from }

@@ -16,7 +16,7 @@ use crate::run::text::{output_line, total_line};
 use crate::{Halt, Value};
 use numbers::Length;
 
-// The code of a show's word; of another line it does not matter. The slot at the word's place is looked up by the caller, which holds the table.
+// The code of a show's word; of another line it does not matter, so that it needs no Option. The slot at the word's place is looked up by the caller, which holds the table.
 pub fn named(line: WholeLine) -> u64
     ensures { Names line result }
 {
