@@ -6,7 +6,7 @@ ghost use Rattle.boresheet.specs.code.Readings.{hex_at};
 use numbers::float::double;
 use sheets::reader::bytes::byte;
 
-// The number of a hexadecimal digit of either case.
+// The number of a hexadecimal digit of either case. (That of test_cases is of lower case alone, and a program stands on no test crate.)
 #[tactic(auto, unfolding(crate::specs::Format::hex_number))]
 pub fn hex_digit(b: u8) -> Option<u64>
     ensures { MatchOption result (hex_number b ≡ 16) (λ d. (d ≡ hex_number b) × (d < 16) × (16 ≤ d + b)) }

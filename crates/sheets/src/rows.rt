@@ -178,7 +178,7 @@ pub fn apply_origin(e: Ellipsoid, frame: Value) -> Result<GeocentricPosition, Un
     Ok(f.origin())
 }
 
-// rz, ry, rx
+// rz, ry, rx: by the axis, since three functions would differ in the field that they take.
 pub fn apply_angle(e: Ellipsoid, axis: Axis, frame: Value) -> Result<Angle, Unapplied>
     ensures { RowGives Radians e (axis_word axis) (frame ∷ []) result }
 {

@@ -29,7 +29,7 @@ impl Names {
         }
     }
 
-    // The newest place of a word that may be the one with this code.
+    // The newest place of a word that may be the one with this code; 0 and no Option, since a search that begins at 0 looks at no place.
     fn newest_of(&self, code: u64) -> usize
         ensures { result ≡ newest_of self.now code }
     {

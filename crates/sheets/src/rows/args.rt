@@ -18,7 +18,7 @@ pub enum Axis {
     X,
 }
 
-// An orientation's place in the order of document 01.
+// An orientation's place in the order of document 01, which the codes of kinds are made of.
 pub fn place_of(o: Orientation) -> u8
     ensures { (result ≡ place o) × (result ≤ 3) }
 {

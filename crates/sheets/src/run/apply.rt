@@ -13,6 +13,8 @@ use crate::{Evaluated, Halt};
 use frames::{Ellipsoid, Orientation};
 
 // The row for the word with this code, over arguments of the kinds that made the key, which is written as in kinds.rt: by the key, then by the word.
+// Compiled into the evaluator: the run of a sheet of brackets takes a few hundredths less so.
+#[inline(always)]
 pub fn apply(
     e: Ellipsoid,
     code: u64,
@@ -41,7 +43,7 @@ pub fn apply(
     }
 }
 
-// The orientation of a vector or a frame, by the digit of its kind in a key: 6 to 9 and a to d.
+// The orientation of a vector or a frame, by the digit of its kind in a key: 6 to 9 and a to d. (Kinds go by their codes, as check/names.rt says, and a key is made of them.)
 fn orientation_at(digit: u64) -> Orientation
     ensures { result ≡ orientation_at digit }
 {
@@ -67,6 +69,7 @@ fn orientation_by(key: u64) -> Orientation
 }
 
 // The keys with a vector or a frame in them; where there are two, they share the orientation, and the first digit tells it.
+#[inline(always)]
 fn oriented_row(b: Bracket, key: u64, floats: &mut [f64; 2940]) -> Evaluated
     ensures { ForKindsBeyond plain_keys b.e b.code key floats.old b.top b.end result floats.new }
 {

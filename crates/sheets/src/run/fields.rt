@@ -15,7 +15,7 @@ pub fn put_byte(b: u8, out: &mut [u8], at: usize) -> usize
     at + 1
 }
 
-// All bytes of a text. By `copy_from_slice` the library of the C functions would ask for memmove.
+// All bytes of a text. `copy_from_slice` was tried here, and the library of the C functions then asked for memmove.
 pub fn put_text(text: &[u8], out: &mut [u8], at: usize) -> usize
     requires { at + length text.now ≤ length out.old }
     ensures { Written out.old at text.now out.new result }

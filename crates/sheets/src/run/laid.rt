@@ -79,7 +79,7 @@ impl AsFloats for LocalFrame {
     }
 }
 
-// The test of refusal 7, of the value of the kind with this code that lies at a place.
+// The test of refusal 7, of the value of the kind with this code (kinds go by their codes, as check/names.rt says) that lies at a place.
 pub fn tested(kind: u8, floats: &[f64; 2940], top: usize, end: usize) -> Evaluated
     requires { top + 21 ≤ 2940 }
     ensures { result ≡ tested_at kind floats.now top end }

@@ -1,5 +1,5 @@
 // The rows over kinds without an orientation, a function for each list of kinds, P being g or d: the arguments lie as floats, 21 places apart, and the value is laid where the first one lies.
-// So each row is called at values whose kinds are known.
+// So each row is called at values whose kinds are known. P goes by its code, as kinds do everywhere (check/names.rt).
 ghost use Rattle.std.specs.Prelude.{◌≡◌, [], ◌∷◌, ◌+◌, ◌≤◌};
 ghost use Rattle.sheets.specs.Kinds.{number, angle, len};
 ghost use Rattle.sheets.specs.code.rows.KindCodes.{kind_at};
@@ -14,6 +14,7 @@ use crate::{Evaluated, Halt, rows};
 use frames::Orientation;
 
 // n: deg, m.
+#[inline(always)]
 pub fn number_row(b: Bracket, floats: &mut [f64; 2940]) -> Evaluated
     ensures { RowLaid b.e b.code (number ∷ []) floats.old b.top b.end result floats.new }
 {
