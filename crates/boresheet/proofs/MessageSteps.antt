@@ -1,10 +1,12 @@
--- The lines on standard error that say a number: std's digits of a number are the specification's, and how many they are. Assumes nothing.
-use Rattle.std.proofs.Common.{ℕ, zero, suc, ◌+◌, ◌*◌, ◌/◌, ◌%◌, ◌^◌, ◌<◌, ◌≤◌, ◌≡◌, Bool, true, false, List, [], ◌∷◌, ◌++◌, length, ltb, refl, sym, ap, ◌∙◌, arith}
+-- The lines on standard error that say a number: std's digits of a number are the specification's, and how long each part of a line is. Assumes nothing.
+use Rattle.std.proofs.Common.{ℕ, zero, suc, ◌+◌, ◌*◌, ◌/◌, ◌%◌, ◌^◌, ◌<◌, ◌≤◌, ◌≡◌, Bool, true, false, cond, List, [], ◌∷◌, ◌++◌, length, eqb, ltb, refl, sym, ap, ◌∙◌, arith}
 use Rattle.std.proofs.Math.Nat.{pow-suc}
 use Rattle.std.proofs.lemmas.Fmt.{decimal_digit, decimal_step, length-decimal-le}
 use Rattle.std.specs.Fmt as std
+use lib.ListN.{length-append}
 use borrow.Author.Tests.{ltb-true, ltb-false}
-use Rattle.boresheet.specs.Messages.{decimal_if, decimal}
+use Rattle.sheets.specs.Text.{ascii}
+use Rattle.boresheet.specs.Messages.{decimal_if, decimal, refusal_name, place_text}
 
 one-digit : (n : ℕ) → n < 10 → std.decimal n ≡ (48 + n % 10) ∷ []
 one-digit n h = let e : n ≡ n % 10 = omega arith in decimal_digit n h ∙ ap (λ d. (48 + d) ∷ []) e
@@ -31,3 +33,31 @@ number_digits n h = sym (digits_are 19 n (omega arith) (omega arith)) ∙ digits
 
 pub decimal_length : (n : ℕ) → n < 2 ^ 64 → length (decimal 19 n) ≤ 20
 decimal_length n h = omega (arith, ap (λ (ds : List ℕ). length ds) (digits_are 19 n (omega arith) h), length-decimal-le 20 n (omega arith) (omega arith) h)
+
+-- ---- how long, of any number
+
+if-length : (t : Bool) (a b : List ℕ) → length (decimal_if t a b) ≤ length a + length b
+unfolding decimal_if
+if-length true a b = omega arith
+if-length false a b = omega (arith, length-append a b)
+
+-- of at most k digits and one
+pub decimal-length : (k n : ℕ) → length (decimal k n) ≤ k + 1
+unfolding decimal
+decimal-length zero n = omega arith
+decimal-length (suc k) n = omega (arith, if-length (ltb n 10) (decimal k (n / 10)) ((48 + n % 10) ∷ []), decimal-length k (n / 10))
+
+cond-length : (t : Bool) (m : ℕ) (a b : List ℕ) → length a ≤ m → length b ≤ m → length (cond t a b) ≤ m
+cond-length true m a b h k = h
+cond-length false m a b h k = k
+
+pub name-length : (n : ℕ) → length (refusal_name n) ≤ 9
+unfolding refusal_name
+name-length n =
+    cond-length (eqb n 1) 9 _ _ (omega arith) (cond-length (eqb n 2) 9 _ _ (omega arith) (cond-length (eqb n 3) 9 _ _ (omega arith) (cond-length (eqb n 4) 9 _ _ (omega arith)
+    (cond-length (eqb n 5) 9 _ _ (omega arith) (cond-length (eqb n 6) 9 _ _ (omega arith) (cond-length (eqb n 7) 9 _ _ (omega arith) (cond-length (eqb n 8) 9 _ _ (omega arith)
+    (cond-length (eqb n 9) 9 _ _ (omega arith) (omega arith)))))))))
+
+pub place-length : (line : ℕ) → length (place_text line) ≤ 29
+unfolding place_text
+place-length line = cond-length (eqb line 0) 29 _ _ (omega arith) (omega (arith, length-append (ascii " at line ") (decimal 19 line), decimal-length 19 line))

@@ -7,22 +7,26 @@ use mathlib.Core.List.{List, [], ◌∷◌}
 use mathlib.Core.Option.{Option, none, some}
 use Prim.Native.Nat.{suc}
 use lib.ListN.{length}
+use lib.Ieee.{Float}
+use Rattle.numbers.specs.declared.Angle.{Angle}
 use Rattle.numbers.specs.declared.Length.{Length}
 use Rattle.frames.specs.declared.Ellipsoid.{Ellipsoid}
 use Rattle.frames.specs.declared.GeocentricPosition.{GeocentricPosition}
 use Rattle.frames.specs.declared.GeodeticPosition.{GeodeticPosition}
+use Rattle.frames.specs.declared.LocalVector.{LocalVector}
+use Rattle.frames.specs.declared.LocalFrame.{LocalFrame}
 use denote.Enum.Bare.{sameb}
 use Rattle.frames.specs.contracts.Orientation as orientation_type
 use Rattle.frames.specs.declared.Orientation.{Orientation}
 use Rattle.frames.specs.declared.Orientation.TheVariants.{Enu, Ned, Body, Wan}
 use Rattle.sheets.proofs.ByCases.{by_cases}
 use Rattle.sheets.specs.declared.Value.{Value}
-use Rattle.sheets.specs.declared.Value.TheVariants.{Metres, Geocentric, Geodetic}
+use Rattle.sheets.specs.declared.Value.TheVariants.{Number, Radians, Metres, Geocentric, Geodetic, Vector, Frame}
 use Rattle.sheets.specs.declared.Unapplied.{Unapplied}
 use Rattle.sheets.specs.declared.Unapplied.TheVariants.{NoRow, Centre}
 use Rattle.sheets.specs.Kinds.{same_orientation}
 use Rattle.sheets.specs.Table.{far, not_body, enu_or_ned}
-use Rattle.sheets.specs.Letters.{Letter, 𝐥, 𝐠, 𝐝, ⟦◌⟧, held, hold, both}
+use Rattle.sheets.specs.Letters.{Letter, 𝐧, 𝐚, 𝐥, 𝐠, 𝐝, 𝐯, 𝐟, ⟦◌⟧, held, hold, both}
 use Rattle.sheets.specs.code.rows.Applied.{or_no_row, argument, unless_near, far_enough}
 
 both-none : {X Y : Type 0} (o : Option X) → both {X = X} {Y = Y} o none ≡ none
@@ -93,6 +97,22 @@ near-is e g {u} {X} {r} p h =
 
 -- ---- a value, matched
 
+pub not-𝐧 : (v : Value) → ((x : Float) → v ≡ Number x → ⊥) → held 𝐧 v ≡ none
+unfolding held
+not-𝐧 = by_cases (λ v. ((x : Float) → v ≡ Number x → ⊥) → held 𝐧 v ≡ none) (λ x h. absurd (h x refl)) (λ x h. refl) (λ x h. refl) (λ x h. refl) (λ x h. refl) (λ x h. refl) (λ x h. refl)
+
+pub is-𝐧 : {v : Value} {x : Float} → v ≡ Number x → held 𝐧 v ≡ some x
+unfolding held
+is-𝐧 e = ap (held 𝐧) e
+
+pub not-𝐚 : (v : Value) → ((x : Angle) → v ≡ Radians x → ⊥) → held 𝐚 v ≡ none
+unfolding held
+not-𝐚 = by_cases (λ v. ((x : Angle) → v ≡ Radians x → ⊥) → held 𝐚 v ≡ none) (λ x h. refl) (λ x h. absurd (h x refl)) (λ x h. refl) (λ x h. refl) (λ x h. refl) (λ x h. refl) (λ x h. refl)
+
+pub is-𝐚 : {v : Value} {x : Angle} → v ≡ Radians x → held 𝐚 v ≡ some x
+unfolding held
+is-𝐚 e = ap (held 𝐚) e
+
 pub not-𝐥 : (v : Value) → ((x : Length) → v ≡ Metres x → ⊥) → held 𝐥 v ≡ none
 unfolding held
 not-𝐥 = by_cases (λ v. ((x : Length) → v ≡ Metres x → ⊥) → held 𝐥 v ≡ none) (λ x h. refl) (λ x h. refl) (λ x h. absurd (h x refl)) (λ x h. refl) (λ x h. refl) (λ x h. refl) (λ x h. refl)
@@ -116,6 +136,22 @@ not-𝐝 = by_cases (λ v. ((x : GeodeticPosition) → v ≡ Geodetic x → ⊥)
 pub is-𝐝 : {v : Value} {x : GeodeticPosition} → v ≡ Geodetic x → held 𝐝 v ≡ some x
 unfolding held
 is-𝐝 e = ap (held 𝐝) e
+
+pub not-𝐯 : (v : Value) → ((x : LocalVector) → v ≡ Vector x → ⊥) → held 𝐯 v ≡ none
+unfolding held
+not-𝐯 = by_cases (λ v. ((x : LocalVector) → v ≡ Vector x → ⊥) → held 𝐯 v ≡ none) (λ x h. refl) (λ x h. refl) (λ x h. refl) (λ x h. refl) (λ x h. refl) (λ x h. absurd (h x refl)) (λ x h. refl)
+
+pub is-𝐯 : {v : Value} {x : LocalVector} → v ≡ Vector x → held 𝐯 v ≡ some x
+unfolding held
+is-𝐯 e = ap (held 𝐯) e
+
+pub not-𝐟 : (v : Value) → ((x : LocalFrame) → v ≡ Frame x → ⊥) → held 𝐟 v ≡ none
+unfolding held
+not-𝐟 = by_cases (λ v. ((x : LocalFrame) → v ≡ Frame x → ⊥) → held 𝐟 v ≡ none) (λ x h. refl) (λ x h. refl) (λ x h. refl) (λ x h. refl) (λ x h. refl) (λ x h. refl) (λ x h. absurd (h x refl))
+
+pub is-𝐟 : {v : Value} {x : LocalFrame} → v ≡ Frame x → held 𝐟 v ≡ some x
+unfolding held
+is-𝐟 e = ap (held 𝐟) e
 
 -- a geocentric position is not a geodetic one, nor the other way
 pub 𝐠-not-𝐝 : {v : Value} {x : GeocentricPosition} → v ≡ Geocentric x → held 𝐝 v ≡ none

@@ -42,6 +42,10 @@ kind-at (frame Ned) = (refl, omega arith)
 kind-at (frame Body) = (refl, omega arith)
 kind-at (frame Wan) = (refl, omega arith)
 
+-- and so it is not 255
+pub kind-small : (k : Kind) → kind_code k < 13
+kind-small k = (kind-at k).1
+
 -- the key, its last kind first
 abbrev back_key : List Kind → ℕ
 back_key [] = 0
