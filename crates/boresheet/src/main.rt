@@ -3,7 +3,7 @@
 // The exit status is always 0: the line on standard error is what tells a refusal.
 #![tactic(auto)]
 
-ghost use Rattle.std.specs.Prelude.{IfOk};
+ghost use Rattle.std.specs.Prelude.{IfErr, IfOk};
 ghost use Rattle.std.specs.Counts.{IsPrefixLen};
 
 mod files;
@@ -12,7 +12,7 @@ mod messages;
 mod readings;
 mod reports;
 
-use files::fill;
+use files::{ReadFailed, fill};
 use readings::{BadReadings, readings_of};
 use sheets::run::run;
 use std::env::FillError;
@@ -43,7 +43,7 @@ fn run_input(rt: &HostRuntime, values: &[f64; 16]) {
     let mut sheet = [0u8; 16385];
     match fill(&mut rt.stdin(), &mut sheet) {
         Ok(n) => run_sheet(rt, &sheet[..n], values),
-        Err(e) => reports::fail(rt, b"standard input", e),
+        Err(failed) => reports::fail(rt, b"standard input", failed.error),
     }
 }
 
@@ -65,11 +65,12 @@ fn open(rt: &HostRuntime, name: &[u8]) -> io::Result<File> {
     }
 }
 
-// Reads the start of the file of this name, as far as a buffer holds it. An error is that of the call that failed.
-fn read_file(rt: &HostRuntime, name: &[u8], buf: &mut [u8]) -> io::Result<usize>
-    ensures { IfOk result (λ n. IsPrefixLen n buf.new) }
+// Reads the start of the file of this name, as far as a buffer holds it. An error is that of the call that failed, and tells how many bytes had come before: none where the file was not opened.
+fn read_file(rt: &HostRuntime, name: &[u8], buf: &mut [u8]) -> Result<usize, ReadFailed>
+    ensures ok { IfOk result (λ n. IsPrefixLen n buf.new) }
+    ensures before { IfErr result (λ failed. IsPrefixLen failed.count buf.new) }
 {
-    let mut file = open(rt, name)?;
+    let mut file = open(rt, name).map_err(|error| ReadFailed { count: 0, error })?;
     fill(&mut file, buf)
 }
 
@@ -78,7 +79,7 @@ fn run_file(rt: &HostRuntime, name: &[u8]) {
     let mut file = [0u8; 512];
     match read_file(rt, name, &mut file) {
         Ok(n) => run_with(rt, &file[..n]),
-        Err(e) => reports::fail(rt, name, e),
+        Err(failed) => reports::fail(rt, name, failed.error),
     }
 }
 
