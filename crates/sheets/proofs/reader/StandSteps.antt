@@ -18,7 +18,7 @@ use Rattle.sheets.specs.code.reader.Reader.{got, chars_if, chars, word_if, read_
 use Rattle.sheets.specs.code.reader.Views.{begins, stands_at, coded}
 use Rattle.sheets.proofs.reader.Spans.{Spans, spans-split, spans-end, drop-spans}
 use Rattle.sheets.proofs.reader.ReaderLaws.{open_is}
-use Rattle.sheets.proofs.reader.TokenLaws.{space-stops, word-complete}
+use Rattle.sheets.proofs.reader.TokenLaws.{Stops, space-stops, close-stops, word-complete}
 use Rattle.sheets.proofs.reader.CodeLaws.{word-by}
 
 -- ---- the loop: all of w stands there where the rest of it begins the bytes behind the first i
@@ -70,17 +70,22 @@ stands-begun w s at e = go (leb (at + length w) (length s)) refl e
     go false h e = let z : ◌≡◌ {A = ℕ} 0 1 = cc in absurd (omega arith)
 
 module _ (s : List ℕ) (at : ℕ) (q : List ℕ) where
-  opened : (v : Word) → IsWord v → (n : ℕ) → n ≡ at + 1 + length v → drop at s ≡ ((40 ∷ v) ++ (32 ∷ [])) ++ q → Some (code_of v, n) ≡ coded (opening s at)
+  -- by the byte c, which ends the word
+  opened : (v : Word) → IsWord v → (c : ℕ) → ((m : ℕ) → get_or s m 0 ≡ c → Stops s m) → (n : ℕ) → n ≡ at + 1 + length v → drop at s ≡ ((40 ∷ v) ++ (c ∷ [])) ++ q → Some (code_of v, n) ≡ coded (opening s at)
   unfolding Spans coded
-  opened v hv n en e =
-      let (m, a, b) = spans-split s (40 ∷ v) (32 ∷ []) at _ (drop-spans s ((40 ∷ v) ++ (32 ∷ [])) q at e).0 in
+  opened v hv c ends n en e =
+      let (m, a, b) = spans-split s (40 ∷ v) (c ∷ []) at _ (drop-spans s ((40 ∷ v) ++ (c ∷ [])) q at e).0 in
       let i : m ≡ n = spans-end s v (at + 1) m a.1 ∙ sym en in
-      sym (ap coded (open_is s at (get_or s at 0) refl a.0 ∙ word-complete s v (at + 1) m a.1 hv (space-stops s m b.0) ∙ ap (got v) i))
+      sym (ap coded (open_is s at (get_or s at 0) refl a.0 ∙ word-complete s v (at + 1) m a.1 hv (ends m b.0) ∙ ap (got v) i))
 
   pub opened-show : drop at s ≡ ascii "(show " ++ q → Some (code_of (ascii "show"), at + 5) ≡ coded (opening s at)
   unfolding read_word word_if chars chars_if letter word_char code_from
-  opened-show e = opened (ascii "show") (word-by (ascii "show") refl) (at + 5) (omega arith) e
+  opened-show e = opened (ascii "show") (word-by (ascii "show") refl) 32 (space-stops s) (at + 5) (omega arith) e
 
   pub opened-let : drop at s ≡ ascii "(let " ++ q → Some (code_of (ascii "let"), at + 4) ≡ coded (opening s at)
   unfolding read_word word_if chars chars_if letter word_char code_from
-  opened-let e = opened (ascii "let") (word-by (ascii "let") refl) (at + 4) (omega arith) e
+  opened-let e = opened (ascii "let") (word-by (ascii "let") refl) 32 (space-stops s) (at + 4) (omega arith) e
+
+  pub opened-total : drop at s ≡ ascii "(total)" ++ q → Some (code_of (ascii "total"), at + 6) ≡ coded (opening s at)
+  unfolding read_word word_if chars chars_if letter word_char code_from
+  opened-total e = opened (ascii "total") (word-by (ascii "total") refl) 41 (close-stops s) (at + 6) (omega arith) e

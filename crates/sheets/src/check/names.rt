@@ -19,6 +19,8 @@ pub struct Names {
 
 impl Names {
     // No word yet; line 1 of a sheet, which has the place 0, has no kind.
+    // Not inlined: what it makes would lie on its caller's stack twice, for as long as the caller runs.
+    #[inline(never)]
     pub fn new() -> Names
         ensures { result ≡ no_names }
     {

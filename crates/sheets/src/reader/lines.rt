@@ -42,7 +42,7 @@ pub fn opening(s: &[u8], at: usize) -> Option<(u64, usize)>
     None
 }
 
-// The same: `(show ` and `(let ` are known by their bytes, which is quicker than by the word's code; any other word is read.
+// The same: `(show `, `(let ` and `(total)` are known by their bytes, which is quicker than by the word's code; any other word is read.
 fn line_word(s: &[u8], at: usize) -> Option<(u64, usize)>
     ensures { result ≡ coded (opening s.now at) }
 {
@@ -51,6 +51,9 @@ fn line_word(s: &[u8], at: usize) -> Option<(u64, usize)>
     }
     if stands(s, at, b"(let ") {
         return Some((words::LET, at + 4));
+    }
+    if stands(s, at, b"(total)") {
+        return Some((words::TOTAL, at + 6));
     }
     opening(s, at)
 }
