@@ -1,18 +1,23 @@
 -- Whether the names shown stand apart, as the code tells it: a law for each way out of `is_clear`, `is_clear_below`, the loop of `stand_apart`, and `apart`; and that it is what the definition says. Assumes nothing.
 use Rattle.std.specs.Prelude.{Ok, Err}
-use Prim.Native.Nat.{ℕ, zero, suc, ◌+◌, ◌<◌, ◌≤◌}
+use Prim.Native.Nat.{ℕ, zero, suc, ◌+◌, ◌-◌, ◌<◌, ◌≤◌}
 use native.Mathlib.Numerals.{add-one}
 use native.Mathlib.Omega.{arith}
 use mathlib.Core.Path.{◌≡◌, refl, sym, ap, ap₂, subst, ◌∙◌}
 use mathlib.Core.Logic.{◌⊎◌, inl, inr}
 use mathlib.Core.Bool.{Bool, true, false, ◌&&◌, true≢false}
 use Rattle.std.proofs.Math.Bool.{and-false}
-use mathlib.Core.List.{List}
+use mathlib.Core.List.{List, [], ◌∷◌}
 use lib.Dec.{eqb, ltb}
 use lib.ListN.{length, get_or}
 use Rattle.std.specs.Bool.{MatchBool}
-use Rattle.std.specs.List.{range_with_len, AllWithin, HoldsAt}
-use Rattle.std.proofs.lemmas.List.FromFn.{length-range_with_len, get_or-range_with_len}
+use Rattle.std.specs.List.{AllWithin, HoldsAt}
+use Rattle.std.specs.Iterator.Adapters.{rev_source, rev_steps}
+use Rattle.std.specs.declared.iter.Rev.{Rev}
+use Rattle.std.specs.declared.ops.Range.{Range}
+use Rattle.std.proofs.iter.runs.Sources.{nat_range_steps_back}
+use Rattle.std.proofs.lemmas.Iterator.{YieldsList}
+use Rattle.std.proofs.lemmas.Iterator.Splits.{YieldsList-from_shown_while}
 use lib.Ieee as Ieee
 use lib.Ieee.{Float, binary64}
 use lib.Ieee.Fits.{add-fits}
@@ -33,8 +38,29 @@ use Rattle.sheets.specs.code.run.Apart.{metres_at, clear_at, clear_below, apart_
 use Rattle.sheets.proofs.ApartLaws.{distance-comm, clear-two, not-clear, every_two, some-two}
 use Rattle.sheets.proofs.Bools.{and_both, and-some}
 
-place-at : (n q : ℕ) → q < n → get_or (range_with_len 0 n) q 0 ≡ q
-place-at n q l = let e = get_or-range_with_len 0 n q 0 l in e ∙ omega arith
+-- the places below n, from the last one down, as `(0..n).rev()` gives them
+pub downward : ℕ → List ℕ
+downward zero = []
+downward (suc n) = n ∷ downward n
+
+length-downward : (n : ℕ) → length (downward n) ≡ n
+unfolding downward
+length-downward zero = refl
+length-downward (suc n) = ap suc (length-downward n)
+
+place-at : (n k q : ℕ) → k + q + 1 ≡ n → get_or (downward n) k 0 ≡ q
+unfolding downward
+place-at zero k q e = absurd (omega (arith, e))
+place-at (suc n) zero q e = omega (arith, e)
+place-at (suc n) (suc k) q e = place-at n k q (omega (arith, e))
+
+pub downward-yielded : {s : Rev (Range ℕ)} (n : ℕ) → rev_source s ≡ record { start = 0; end = n } → YieldsList (rev_steps nat_range_steps_back) (λ x. x) s (downward n)
+unfolding downward
+downward-yielded {s} n e = subst (λ (k : Range ℕ). YieldsList (rev_steps nat_range_steps_back) (λ x. x) s (downward k.end)) e
+    (YieldsList-from_shown_while (rev_steps nat_range_steps_back) (λ x. x) (λ u. downward (rev_source u).end) (λ u. (rev_source u).start ≡ 0)
+    (λ u t z p. length-downward (rev_source u).end ∙ omega (arith, z, p.1.0))
+    (λ u x t z p. (p.0 ∙ z, ap downward (p.1.2 ∙ add-one (rev_source t).end) ∙ ap (λ k. k ∷ downward (rev_source t).end) (sym p.1.1)))
+    s (ap (λ (k : Range ℕ). k.start) e))
 
 module _ (least : Float) (f : List Float) (js : List Bool) where
   -- ---- one place
@@ -70,39 +96,38 @@ module _ (least : Float) (f : List Float) (js : List Bool) where
 
   -- what `all` answers of the places below n
   pub clear-decided : (v : Vec3) (n : ℕ) (r : Bool)
-      → MatchBool r (AllWithin (λ q. true ≡ clear_at least v f js q) (range_with_len 0 n) 0 (length (range_with_len 0 n))) ((k : ℕ) × (k < length (range_with_len 0 n)) × HoldsAt (λ q. false ≡ clear_at least v f js q) (range_with_len 0 n) k)
+      → MatchBool r (AllWithin (λ q. true ≡ clear_at least v f js q) (downward n) 0 (length (downward n))) ((k : ℕ) × (k < length (downward n)) × HoldsAt (λ q. false ≡ clear_at least v f js q) (downward n) k)
       → r ≡ clear_below least v f js n
-  clear-decided v n true h = clear-each v n (λ q l. subst (λ j. true ≡ clear_at least v f js j) (place-at n q l) (h q 0 (omega arith) (omega (arith, length-range_with_len 0 n))))
+  clear-decided v n true h = clear-each v n (λ q l. subst (λ j. true ≡ clear_at least v f js j) (place-at n (n - 1 - q) q (omega arith)) (h (n - 1 - q) 0 (omega arith) (omega (arith, length-downward n))))
   clear-decided v n false (k, l, h) =
-      let few : k < n = omega (arith, length-range_with_len 0 n) in
-      clear-broken v k (subst (λ j. false ≡ clear_at least v f js j) (place-at n k few) (h 0)) n few
+      let few : k < n = omega (arith, l, length-downward n) in
+      clear-broken v (n - 1 - k) (subst (λ j. false ≡ clear_at least v f js j) (place-at n k (n - 1 - k) (omega arith)) (h 0)) n (omega arith)
 
-  -- ---- every two of the places below
+  -- ---- every two of the places below, from the last one down: p is the place after q
 
-  pub apart-none : apart_below least f js 0 ≡ true
-  unfolding apart_below
-  apart-none = refl
-
-  pub apart-unshown : (q : ℕ) → get_or js q false ≡ false → apart_below least f js q ≡ true → apart_below least f js (q + 1) ≡ true
-  unfolding apart_below
-  apart-unshown q h i = ap (apart_below least f js) (add-one q) ∙ ap (λ (z : Bool). when z (clear_below least (metres_at f q) f js q) true && apart_below least f js q) h ∙ i
-
-  module _ (q : ℕ) (h : get_or js q false ≡ true) (v : Vec3) (ev : v ≡ metres_at f q) (c : Bool) (ec : c ≡ clear_below least v f js q) where
-    shown-is : (b : Bool) → c ≡ b → when (get_or js q false) (clear_below least (metres_at f q) f js q) true ≡ b
-    shown-is b e = ap (λ (z : Bool). when z (clear_below least (metres_at f q) f js q) true) h ∙ ap (λ v. clear_below least v f js q) (sym ev) ∙ sym ec ∙ e
-
-    pub apart-next : c ≡ true → apart_below least f js q ≡ true → apart_below least f js (q + 1) ≡ true
+  module _ (p q : ℕ) (ep : p ≡ suc q) where
+    pub apart-unshown : get_or js q false ≡ false → apart_below least f js p ≡ apart_below least f js q
     unfolding apart_below
-    apart-next e i = ap (apart_below least f js) (add-one q) ∙ ap (λ (z : Bool). z && apart_below least f js q) (shown-is true e) ∙ i
+    apart-unshown h = ap (apart_below least f js) ep ∙ ap (λ (z : Bool). when z (clear_below least (metres_at f q) f js q) true && apart_below least f js q) h
 
-    pub apart-broken : c ≡ false → (p : ℕ) → q < p → false ≡ apart_below least f js p
-    unfolding apart_below
-    apart-broken e zero l = absurd (omega arith)
-    apart-broken e (suc p) l = go (eqb q p) refl (apart-broken e p)
-      where
-        go : (b : Bool) → eqb q p ≡ b → (q < p → false ≡ apart_below least f js p) → false ≡ apart_below least f js (suc p)
-        go true a r = sym (ap (λ (z : Bool). z && apart_below least f js p) (ap (λ j. when (get_or js j false) (clear_below least (metres_at f j) f js j) true) (sym (eqb-true q p a)) ∙ shown-is false e))
-        go false a r = let n : (q ≡ p → ⊥) = eqb-false q p a in sym (and-false (when (get_or js p false) (clear_below least (metres_at f p) f js p) true)) ∙ ap (λ (z : Bool). when (get_or js p false) (clear_below least (metres_at f p) f js p) true && z) (r (omega arith))
+    module _ (h : get_or js q false ≡ true) (v : Vec3) (ev : v ≡ metres_at f q) (c : Bool) (ec : c ≡ clear_below least v f js q) where
+      apart-is : (b : Bool) → c ≡ b → apart_below least f js p ≡ (b && apart_below least f js q)
+      unfolding apart_below
+      apart-is b e =
+          ap (apart_below least f js) ep
+          ∙ ap (λ (z : Bool). when z (clear_below least (metres_at f q) f js q) true && apart_below least f js q) h
+          ∙ ap (λ (z : Bool). z && apart_below least f js q) (ap (λ v. clear_below least v f js q) (sym ev) ∙ sym ec ∙ e)
+
+      pub apart_next : c ≡ true → apart_below least f js p ≡ apart_below least f js q
+      apart_next e = apart-is true e
+
+      pub apart-not : c ≡ false → apart_below least f js p ≡ false
+      apart-not e = apart-is false e
+
+  pub apart-end : (p : ℕ) → p ≤ 0 → apart_below least f js p ≡ true
+  unfolding apart_below
+  apart-end zero h = refl
+  apart-end (suc p) h = absurd (omega arith)
 
   -- ---- the answer of an apart
 

@@ -33,14 +33,16 @@ fn is_clear_below(
     requires { place ≤ 96 }
     ensures { result ≡ clear_below least v floats.now shown.now place }
 {
-    (0..place).all(|q| is_clear(least, v, q, floats, shown))
+    (0..place)
+        .rev()
+        .all(|q| is_clear(least, v, q, floats, shown))
 }
 
 // Whether every two names shown are at least so far apart: each with those at the places below its own.
 pub fn stand_apart(least: f64, floats: &[f64; 2940], shown: &[bool; 96]) -> bool
     ensures { result ≡ apart_below least floats.now shown.now 96 }
 {
-    for p in 0..96 {
+    for p in (0..96).rev() {
         if shown[p] {
             let v = position_at(floats, 21 * p).as_metres();
             if !is_clear_below(least, v, p, floats, shown) {
