@@ -113,6 +113,8 @@ pub fn local_at(a: &[u64; 32], at: usize) -> LocalVector
 }
 
 // The first 22 words: orientation, origin, direction and inverse matrix.
+// Compiled into each caller, which then reads only the parts that it takes.
+#[inline(always)]
 pub fn frame_at(a: &[u64; 32]) -> LocalFrame
     ensures { result ≡ Values.frame_at a.now }
 {
