@@ -45,10 +45,10 @@ named num back us r o h = at_one num (λ u. back (num u) ≡ u) us r o (λ u p e
 abbrev Stands : {A : Type 0} → (A → Word) → (ℕ → A) → A → Type 0
 Stands word back u = (back (code_of (word u)) ≡ u) × T (spelt (word u))
 
-pub row_by : {A : Type 0} (word : A → Word) (back : ℕ → A) (us : List A) → All (Stands word back) us → {X : Type 0} (value : X → Value) {e : Ellipsoid} {code : ℕ} {ks : List Kind} {f : List Float} {at end : ℕ} {vs : List Value} → vs ≡ values_at ks f at
-    → (a : A) → a ≡ back code → (r : Result X Unapplied) → RowGives value e (word a) vs r → {q : Evaluated} {f' : List Float} → LaidAs (giving value r) f at end q f' → OneOf (map (λ u. code_of (word u)) us) code → RowLaid e code ks f at end q f'
-row_by word back us t value {e} {code} {ks} {f} {at} {end} {vs} hv a ha r hr {q} {f'} laid o = at_one (λ u. code_of (word u)) (Stands word back) us t o (λ u p c.
-    row_laid (word u) p.1 value e code ks f at end vs hv r (hr ∙ ap (λ w. applied e (find table (word w) vs)) (ha ∙ ap back c ∙ p.0)) q f' laid c)
+pub row_by : {A : Type 0} (word : A → Word) (back : ℕ → A) (us : List A) → All (Stands word back) us → {X : Type 0} (value : X → Value) {e : Ellipsoid} {code : ℕ} {ks : List Kind} {f : List Float} {at : ℕ} {vs : List Value} → vs ≡ values_at ks f at
+    → (a : A) → a ≡ back code → (r : Result X Unapplied) → RowGives value e (word a) vs r → {q : Evaluated} {f' : List Float} → LaidAs (giving value r) f at q f' → OneOf (map (λ u. code_of (word u)) us) code → RowLaid e code ks f at q f'
+row_by word back us t value {e} {code} {ks} {f} {at} {vs} hv a ha r hr {q} {f'} laid o = at_one (λ u. code_of (word u)) (Stands word back) us t o (λ u p c.
+    row_laid (word u) p.1 value e code ks f at vs hv r (hr ∙ ap (λ w. applied e (find table (word w) vs)) (ha ∙ ap back c ∙ p.0)) q f' laid c)
 
 -- n numbers from k on
 abbrev pub from : ℕ → ℕ → List ℕ
@@ -79,8 +79,8 @@ pub none_above : (k n : ℕ) {x : ℕ} → k + n ≤ x → OneOf (from k n) x �
 none_above k n {x} l o = omega (arith, l, (in-range k n x o).1)
 
 -- the row over a position, by its kind's code
-pub of-position : {e : Ellipsoid} {code k : ℕ} {f : List Float} {at end : ℕ} {q : Evaluated} {f' : List Float} → 3 ≤ k → k ≤ 4 → RowLaid e code (geocentric ∷ []) f at end q f' → RowLaid e code (geodetic ∷ []) f at end q f' → RowLaid e code (kind_at k ∷ []) f at end q f'
-of-position {e} {code} {k} {f} {at} {end} {q} {f'} l u g d = ⊎_elim (λ c. rw c g) (λ c. rw c d) (one_from 3 2 k l (omega arith))
+pub of-position : {e : Ellipsoid} {code k : ℕ} {f : List Float} {at : ℕ} {q : Evaluated} {f' : List Float} → 3 ≤ k → k ≤ 4 → RowLaid e code (geocentric ∷ []) f at q f' → RowLaid e code (geodetic ∷ []) f at q f' → RowLaid e code (kind_at k ∷ []) f at q f'
+of-position {e} {code} {k} {f} {at} {q} {f'} l u g d = ⊎_elim (λ c. rw c g) (λ c. rw c d) (one_from 3 2 k l (omega arith))
 
 -- ---- which of several
 

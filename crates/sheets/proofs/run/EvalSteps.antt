@@ -40,33 +40,33 @@ use Rattle.sheets.proofs.run.LaidSteps.{answers-tested, answers-none}
 -- ---- a known word
 
 -- a value laid at a place and tested there answers what was met
-met-number : (x : Float) (f : List Float) (top n : ℕ) → length f ≡ 2940 → top + 21 ≤ 2940 → (q : Evaluated) → q ≡ tested_at 0 (set f top x) top n → Answers (met (Number x)) n top f q (set f top x)
-met-number x f top n lf room q eq = answers-tested top n f (set f top x) [] (Number x) (lies-number f lf top room x) (kept_set f top x) 0 refl q eq
+met-number : (x : Float) (f : List Float) (top : ℕ) → length f ≡ 2940 → top + 21 ≤ 2940 → (q : Evaluated) → q ≡ tested_at 0 (set f top x) top → Answers (met (Number x)) top f q (set f top x)
+met-number x f top lf room q eq = answers-tested top f (set f top x) [] (Number x) (lies-number f lf top room x) (kept_set f top x) 0 refl q eq
 
-module _ (code n : ℕ) (names : Names) (f : List Float) (top : ℕ) (room : top + 21 ≤ 2940) (j : ℕ) (pj : Search.Placed names code j) where
+module _ (code : ℕ) (names : Names) (f : List Float) (top : ℕ) (room : top + 21 ≤ 2940) (j : ℕ) (pj : Search.Placed names code j) where
   -- by the word's place
   by-found : (ps : Known Value) (r : Ready ps names f top) (w : Word) → IsWord w → code ≡ code_of w
       → lookup w ps ≡ when (eqb j 0) (reading_found code r.readings) (some (get_or r.slots j empty_slot).value)
   by-found ps r w iw ec = r.tabled.is w iw ∙ ap (word_found r.slots r.readings r.n) (sym ec) ∙ sym (listed-is r.slots r.readings names f r.n r.listed code j pj)
 
   module _ (z : j ≡ 0) (i : ℕ) (ei : i ≡ reading_index code) where
-    pub known-none : 16 ≤ i → KnownWith code n names f top (Err Halt.Sticks) f
+    pub known-none : 16 ≤ i → KnownWith code names f top (Err Halt.Sticks) f
     unfolding reading_found
     known-none h = record {
       is = λ ps r w iw ec.
           let u : lookup w ps ≡ none = by-found ps r w iw ec ∙ rw (eq-eqb j 0 z, ← ei, le-leb 16 i h) refl in
-          subst (λ o. Answers (meet o) n top f (Err Halt.Sticks) f) (sym u) (answers-none top n f []);
+          subst (λ o. Answers (meet o) top f (Err Halt.Sticks) f) (sym u) (answers-none top f []);
     }
 
-    pub known-reading : i < 16 → (q : Evaluated) → q ≡ tested_at 0 (set f top (float_at f i)) top n → KnownWith code n names f top q (set f top (float_at f i))
+    pub known-reading : i < 16 → (q : Evaluated) → q ≡ tested_at 0 (set f top (float_at f i)) top → KnownWith code names f top q (set f top (float_at f i))
     unfolding reading_found
     known-reading h q eq = record {
       is = λ ps r w iw ec.
           let u : lookup w ps ≡ some (Number (float_at f i)) = by-found ps r w iw ec ∙ rw (eq-eqb j 0 z, ← ei, lt-leb 16 i h) (ap (λ x. some (Number x)) (sym (r.listed.reading i h))) in
-          subst (λ o. Answers (meet o) n top f q (set f top (float_at f i))) (sym u) (met-number (float_at f i) f top n r.listed.size room q eq);
+          subst (λ o. Answers (meet o) top f q (set f top (float_at f i))) (sym u) (met-number (float_at f i) f top r.listed.size room q eq);
     }
 
-  pub known-name : (j ≡ 0 → ⊥) → (k : ℕ) → k ≡ get_or names.kinds j 0 → (g : List Float) → Copied f (21 * j) top g → (q : Evaluated) → q ≡ tested_at k g top n → KnownWith code n names f top q g
+  pub known-name : (j ≡ 0 → ⊥) → (k : ℕ) → k ≡ get_or names.kinds j 0 → (g : List Float) → Copied f (21 * j) top g → (q : Evaluated) → q ≡ tested_at k g top → KnownWith code names f top q g
   known-name z k ek g cp q eq = record {
     is = λ ps r w iw ec.
         let u : lookup w ps ≡ some (get_or r.slots j empty_slot).value = by-found ps r w iw ec ∙ rw (ne_eqb j 0 z) refl in
@@ -74,13 +74,13 @@ module _ (code n : ℕ) (names : Names) (f : List Float) (top : ℕ) (room : top
         let p = placed-slot r.slots r.readings names f r.n r.listed j z few in
         let v = (get_or r.slots j empty_slot).value in
         let same : value_at (kind_of v) g top ≡ value_at (kind_of v) f (21 * j) = same-value (kind_of v) g f top (21 * j) (λ m l. cp.is r.listed.size (omega (arith, few, r.below)) m l) in
-        subst (λ o. Answers (meet o) n top f q g) (sym u) (answers-tested top n f g [] v (record { is = same ∙ p.lies.is }) cp.kept k (ek ∙ p.kind) q eq);
+        subst (λ o. Answers (meet o) top f q g) (sym u) (answers-tested top f g [] v (record { is = same ∙ p.lies.is }) cp.kept k (ek ∙ p.kind) q eq);
   }
 
 -- ---- a word or a NUM
 
 module _ (s : List ℕ) (at : ℕ) (names : Names) (f : List Float) (top : ℕ) (r : Option (ℕ × ℕ)) (er : r ≡ coded (read_word s at)) where
-  pub leaf-word : (k m : ℕ) → r ≡ Some (k, m) → (q : Evaluated) (g : List Float) → KnownWith k m names f top q g → LeafWith s at names f top q g
+  pub leaf-word : (k m : ℕ) → r ≡ Some (k, m) → (q : Evaluated) (g : List Float) → KnownWith k names f top q g → LeafWith s at names f top q m g
   unfolding read_leaf or_num eval
   leaf-word k m h q g hq = record {
     is = λ ps rd e x n k'.
@@ -88,7 +88,7 @@ module _ (s : List ℕ) (at : ℕ) (names : Names) (f : List Float) (top : ℕ) 
         let i : got (word_expr w) m ≡ got x n = ap (λ o. or_num o (read_num s at)) (sym ew) ∙ k' in
         let ix : x ≡ word_expr w = cc in
         let im : n ≡ m = cc in
-        rw (ix, im) (hq.is ps rd w (word-is s at w m ew) ek);
+        rw (ix, im) (record { answers = hq.is ps rd w (word-is s at w m ew) ek; ends = λ j h. refl });
   }
 
   module _ (h : r ≡ None) (v : Option (Float × ℕ)) (ev : v ≡ doubled (read_num s at)) where
@@ -96,7 +96,7 @@ module _ (s : List ℕ) (at : ℕ) (names : Names) (f : List Float) (top : ℕ) 
     unfolding read_leaf or_num
     leaf-is = ap (λ o. or_num o (read_num s at)) (coded_none (read_word s at) r er h)
 
-    pub leaf-num : top + 21 ≤ 2940 → (y : Float) (m : ℕ) → v ≡ Some (y, m) → (q : Evaluated) → q ≡ tested_at 0 (set f top y) top m → LeafWith s at names f top q (set f top y)
+    pub leaf-num : top + 21 ≤ 2940 → (y : Float) (m : ℕ) → v ≡ Some (y, m) → (q : Evaluated) → q ≡ tested_at 0 (set f top y) top → LeafWith s at names f top q m (set f top y)
     unfolding ◌then◌ eval
     leaf-num room y m i q eq = record {
       is = λ ps rd e x n k.
@@ -104,12 +104,12 @@ module _ (s : List ℕ) (at : ℕ) (names : Names) (f : List Float) (top : ℕ) 
           let j : got (num_expr t) m ≡ got x n = ap (λ o. o then (λ x n. got (num_expr x) n)) (sym et) ∙ sym leaf-is ∙ k in
           let ix : x ≡ num_expr t = cc in
           let im : n ≡ m = cc in
-          rw (ix, im, ← ey) (met-number y f top m rd.listed.size room q eq);
+          rw (ix, im, ← ey) (record { answers = met-number y f top rd.listed.size room q eq; ends = λ j h. refl });
     }
 
-    pub leaf-none : v ≡ None → (q : Evaluated) (g : List Float) → LeafWith s at names f top q g
+    pub leaf-none : v ≡ None → (q : Evaluated) (m : ℕ) (g : List Float) → LeafWith s at names f top q m g
     unfolding ◌then◌
-    leaf-none i q g = record {
+    leaf-none i q m g = record {
       is = λ ps rd e x n k.
           let j : no_got ≡ got x n = ap (λ o. o then (λ x n. got (num_expr x) n)) (sym (doubled-none (λ q. q) (read_num s at) v ev i)) ∙ sym leaf-is ∙ k in
           let z : ◌≡◌ {A = ℕ} 0 1 = cc in absurd (omega arith);
@@ -117,9 +117,9 @@ module _ (s : List ℕ) (at : ℕ) (names : Names) (f : List Float) (top : ℕ) 
 
 -- ---- an expression
 
-module _ (s : List ℕ) (at depth : ℕ) (e : Ellipsoid) (names : Names) (f : List Float) (top : ℕ) (r : Evaluated) (g : List Float) where
-  pub evals-bad : None ≡ place (read_expr depth s at) → EvalsWith s at depth e names f top r g
+module _ (s : List ℕ) (at depth : ℕ) (e : Ellipsoid) (names : Names) (f : List Float) (top : ℕ) (r : Evaluated) (m : ℕ) (g : List Float) where
+  pub evals-bad : None ≡ place (read_expr depth s at) → EvalsWith s at depth e names f top r m g
   evals-bad h = record { is = λ ps rd. record { is = λ x n k. not-read (read_expr depth s at) x n h k } }
 
-  pub evals-leaf : (b : ℕ) → b ≡ get_or s at 0 → (b ≡ 40 → ⊥) → LeafWith s at names f top r g → EvalsWith s at depth e names f top r g
+  pub evals-leaf : (b : ℕ) → b ≡ get_or s at 0 → (b ≡ 40 → ⊥) → LeafWith s at names f top r m g → EvalsWith s at depth e names f top r m g
   evals-leaf b eb h l = record { is = λ ps rd. record { is = λ x n k. l.is ps rd e x n (sym (expr-leaf s at b eb depth h) ∙ k) } }

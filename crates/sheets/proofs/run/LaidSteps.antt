@@ -42,21 +42,21 @@ use Rattle.sheets.proofs.run.FloatLaws.{kinds-of-at, kept_refl, kept_trans, kept
 
 -- ---- what is laid
 
-module _ (at n : ℕ) (f f' : List Float) where
-  pub answers-tested : (fs : List LocalFrame) (v : Value) → Lies f' at v → KeptBelow f at f' → (k : ℕ) → k ≡ kind_code (kind_of v) → (q : Evaluated) → q ≡ tested_at k f' at n → Answers (test fs (in_limit v) v) n at f q f'
+module _ (at : ℕ) (f f' : List Float) where
+  pub answers-tested : (fs : List LocalFrame) (v : Value) → Lies f' at v → KeptBelow f at f' → (k : ℕ) → k ≡ kind_code (kind_of v) → (q : Evaluated) → q ≡ tested_at k f' at → Answers (test fs (in_limit v) v) at f q f'
   unfolding evaluated LiesOf
-  answers-tested fs v lies kept k e q h = go (in_limit v) (h ∙ ap (λ m. tested_at m f' at n) e ∙ ap (λ x. when (in_limit x) (Ok (kind_code (kind_of v), n)) (Err (Halt.Refused Code.Limit))) (ap (λ j. value_at j f' at) (kind-at (kind_of v)).0 ∙ lies.is))
+  answers-tested fs v lies kept k e q h = go (in_limit v) (h ∙ ap (λ m. tested_at m f' at) e ∙ ap (λ x. when (in_limit x) (Ok (kind_code (kind_of v))) (Err (Halt.Refused Code.Limit))) (ap (λ j. value_at j f' at) (kind-at (kind_of v)).0 ∙ lies.is))
     where
-      go : (b : Bool) → q ≡ when b (Ok (kind_code (kind_of v), n)) (Err (Halt.Refused Code.Limit)) → Answers (test fs b v) n at f q f'
+      go : (b : Bool) → q ≡ when b (Ok (kind_code (kind_of v))) (Err (Halt.Refused Code.Limit)) → Answers (test fs b v) at f q f'
       go true p = record { is = p; lies = lies; kept = kept }
       go false p = record { is = p; lies = tt; kept = kept }
 
-module _ (at n : ℕ) (f : List Float) (fs : List LocalFrame) where
-  pub answers-none : Answers (sticks fs) n at f (Err Halt.Sticks) f
+module _ (at : ℕ) (f : List Float) (fs : List LocalFrame) where
+  pub answers-none : Answers (sticks fs) at f (Err Halt.Sticks) f
   unfolding evaluated LiesOf
   answers-none = record { is = refl; lies = tt; kept = kept_refl f at }
 
-  pub answers-stops : (r : Stop) → Answers (stops fs r) n at f (Err (Halt.Refused (code_for (stop r)))) f
+  pub answers-stops : (r : Stop) → Answers (stops fs r) at f (Err (Halt.Refused (code_for (stop r)))) f
   unfolding evaluated LiesOf
   answers-stops r = record { is = refl; lies = tt; kept = kept_refl f at }
 
@@ -70,14 +70,14 @@ geodetic-laid f at p room = record {
   kept = kept_trans f _ _ at (at + 3) (kept-lay f at (p.hp.0.x ∷ p.hp.0.y ∷ p.hp.0.z ∷ [])) (kept_set _ (at + 3) p.height.0) (omega arith);
 }
 
-module _ (f : List Float) (at n : ℕ) where
+module _ (f : List Float) (at : ℕ) where
   -- a value that was laid, as its kind's code is tested
-  pub laid-value : (v : Value) (k : ℕ) (f' : List Float) → IsLaid v f at k f' → (q : Evaluated) → q ≡ tested_at k f' at n → LaidAs (Ok v) f at n q f'
-  laid-value v k f' l q h = record { is = λ lf. answers-tested at n f f' (made v) v (l.lies lf) l.kept k l.code q h }
+  pub laid-value : (v : Value) (k : ℕ) (f' : List Float) → IsLaid v f at k f' → (q : Evaluated) → q ≡ tested_at k f' at → LaidAs (Ok v) f at q f'
+  laid-value v k f' l q h = record { is = λ lf. answers-tested at f f' (made v) v (l.lies lf) l.kept k l.code q h }
 
-  pub laid-unapplied : (u : Unapplied) (h : Halt) → h ≡ unapplied u → LaidAs (Err u) f at n (Err h) f
-  laid-unapplied NoRow h e = rw e (record { is = λ lf. answers-none at n f [] })
-  laid-unapplied Centre h e = rw e (record { is = λ lf. answers-stops at n f [] centre })
+  pub laid-unapplied : (u : Unapplied) (h : Halt) → h ≡ unapplied u → LaidAs (Err u) f at (Err h) f
+  laid-unapplied NoRow h e = rw e (record { is = λ lf. answers-none at f [] })
+  laid-unapplied Centre h e = rw e (record { is = λ lf. answers-stops at f [] centre })
 
 -- ---- the machine's step
 
@@ -92,10 +92,10 @@ apply-row e (some h) = by-test (on h.row.takes (h.row.centred e) h.args) (on h.r
 -- ---- a row
 
 -- the row for the word v
-pub row_laid : (v : Word) → T (spelt v) → {X : Type 0} (value : X → Value) (e : Ellipsoid) (code : ℕ) (ks : List Kind) (f : List Float) (at end : ℕ) (vs : List Value) → vs ≡ values_at ks f at
-    → (r : Result X Unapplied) → RowGives value e v vs r → (q : Evaluated) (f' : List Float) → LaidAs (giving value r) f at end q f' → code ≡ code_of v → RowLaid e code ks f at end q f'
-row_laid v hv value e code ks f at end vs us r h q f' laid c = record {
-  is = λ lf w hw d. subst (λ o. Answers o end at f q f') (step w (code_same v w (spelt_is v hv) hw (sym c ∙ d))) (laid.is lf);
+pub row_laid : (v : Word) → T (spelt v) → {X : Type 0} (value : X → Value) (e : Ellipsoid) (code : ℕ) (ks : List Kind) (f : List Float) (at : ℕ) (vs : List Value) → vs ≡ values_at ks f at
+    → (r : Result X Unapplied) → RowGives value e v vs r → (q : Evaluated) (f' : List Float) → LaidAs (giving value r) f at q f' → code ≡ code_of v → RowLaid e code ks f at q f'
+row_laid v hv value e code ks f at vs us r h q f' laid c = record {
+  is = λ lf w hw d. subst (λ o. Answers o at f q f') (step w (code_same v w (spelt_is v hv) hw (sym c ∙ d))) (laid.is lf);
 }
   where
     step : (w : Word) → v ≡ w → out_of (giving value r) ≡ apply_row e (find table w (values_at ks f at))
@@ -150,9 +150,9 @@ unfolding find_kind
 find_none ls codes t w ks k m vs e = none-mapped (find table w vs) (find-kind table w vs ∙ ap (find_kind table w) e ∙ search-none ls codes w ks k m (kind_rows table) t)
 
 -- for kinds of these letters, every row's word has one of these codes
-pub row-none : (ls codes : List ℕ) → T (all_apart ls codes (kind_rows table)) → (e : Ellipsoid) (code : ℕ) (ks : List Kind) → T (like ls ks) → (f : List Float) (at end : ℕ) → Missed codes code → RowLaid e code ks f at end (Err Halt.Sticks) f
-row-none ls codes t e code ks k f at end m = record {
-  is = λ lf w hw d. subst (λ o. Answers (apply_row e o) end at f (Err Halt.Sticks) f) (sym (find_none ls codes t w ks k (subst (Missed codes) d m) (values_at ks f at) (kinds-of-at ks f at))) (answers-none at end f []);
+pub row-none : (ls codes : List ℕ) → T (all_apart ls codes (kind_rows table)) → (e : Ellipsoid) (code : ℕ) (ks : List Kind) → T (like ls ks) → (f : List Float) (at : ℕ) → Missed codes code → RowLaid e code ks f at (Err Halt.Sticks) f
+row-none ls codes t e code ks k f at m = record {
+  is = λ lf w hw d. subst (λ o. Answers (apply_row e o) at f (Err Halt.Sticks) f) (sym (find_none ls codes t w ks k (subst (Missed codes) d m) (values_at ks f at) (kinds-of-at ks f at))) (answers-none at f []);
 }
 
 -- ---- the values of the arguments, one by one

@@ -3,7 +3,7 @@ use Rattle.std.specs.Prelude.{Option, Some, None, Result, Ok, Err}
 use Rattle.std.specs.Option.{ok_or}
 use Prim.Native.Nat.{ℕ, ◌+◌, ◌-◌, ◌<◌, ◌≤◌}
 use native.Mathlib.Omega.{arith}
-use mathlib.Core.Path.{◌≡◌, refl, sym, ap, ◌∙◌}
+use mathlib.Core.Path.{◌≡◌, refl, sym, ap, subst, ◌∙◌}
 use mathlib.Core.Bool.{Bool, true, false}
 use mathlib.Core.List.{List, ◌++◌}
 use lib.Dec.{ltb}
@@ -17,12 +17,12 @@ use Rattle.frames.specs.declared.Ellipsoid.{Ellipsoid}
 use Rattle.sheets.specs.declared.Value.{Value}
 use Rattle.sheets.specs.declared.Halt.{Halt}
 use Rattle.sheets.specs.Trees.{let_line}
-use Rattle.sheets.specs.Machine.{Out, goes, stops, sticks, eval}
+use Rattle.sheets.specs.Machine.{Out, eval}
 use Rattle.sheets.specs.code.reader.Reader.{read_expr, closing, rest}
 use Rattle.sheets.specs.code.reader.Views.{closed}
 use Rattle.sheets.specs.code.run.Floats.{float_at}
 use Rattle.sheets.specs.declared.check.names.Names.{Names}
-use Rattle.sheets.specs.code.run.Evaluating.{Evaluated, evaluated, EvalsWith}
+use Rattle.sheets.specs.code.run.Evaluating.{Evaluated, Answers, AnswersTo, EvalsWith}
 use Rattle.sheets.specs.code.run.Running.{WithReadings, LetWith}
 use Rattle.sheets.proofs.reader.Inverse.{then-read, closing-read}
 use Rattle.sheets.proofs.run.KnownLaws.{get_or-inside}
@@ -53,18 +53,11 @@ readings-put rs f n {x} few inside all ex = record { is = λ e. (size e, λ j h.
 
 -- ---- a value, or none
 
-pub same-ok : {j k m n : ℕ} → ◌≡◌ {A = Evaluated} (Ok (j, m)) (Ok (k, n)) → (j ≡ k) × (m ≡ n)
-same-ok {j} {k} {m} {n} e = let i : ◌≡◌ {A = ℕ × ℕ} (j, m) (k, n) = cc in (ap (λ (p : ℕ × ℕ). p.0) i, ap (λ (p : ℕ × ℕ). p.1) i)
+pub same-ok : {j k : ℕ} → ◌≡◌ {A = Evaluated} (Ok j) (Ok k) → j ≡ k
+same-ok e = cc
 
-pub not-ok : {C : Type 0} (h : Halt) (p : ℕ × ℕ) → ◌≡◌ {A = Evaluated} (Err h) (Ok p) → C
-not-ok h p e = let z : ◌≡◌ {A = ℕ} 0 1 = cc in absurd (omega arith)
-
--- where there is none, the answer does not depend on the place
-not_at : (h : Halt) (o : Out Value) (m n : ℕ) → Err h ≡ evaluated o m → Err h ≡ evaluated o n
-unfolding evaluated
-not_at h (goes fs v) m n e = not-ok h _ e
-not_at h (stops fs c) m n e = e
-not_at h (sticks fs) m n e = e
+pub not-ok : {C : Type 0} (h : Halt) (k : ℕ) → ◌≡◌ {A = Evaluated} (Err h) (Ok k) → C
+not-ok h k e = let z : ◌≡◌ {A = ℕ} 0 1 = cc in absurd (omega arith)
 
 -- a place that may be lacking, where the machine sticks without it
 pub or-stuck : (c : Option ℕ) (r : Result ℕ Halt) → r ≡ ok_or c Halt.Sticks → (i : Halt) → r ≡ Err i → c ≡ None
@@ -77,34 +70,29 @@ or-place (Some m) r e n en = let i : m ≡ n = cc in ap (λ z. Some z) i
 
 -- ---- what is left of a let
 
-module _ (s : List ℕ) (at : ℕ) (e : Ellipsoid) (names : Names) (f : List Float) (top : ℕ) (r : Evaluated) (g : List Float) (h : EvalsWith s at 11 e names f top r g) where
-  let_by : (q : Evaluated) → ((o : Out Value) (j n : ℕ) → r ≡ evaluated o j → closed s j ≡ Some n → q ≡ evaluated o n) → LetWith s at e names f top q g
+module _ (s : List ℕ) (at : ℕ) (e : Ellipsoid) (names : Names) (f : List Float) (top : ℕ) (r : Evaluated) (end : ℕ) (g : List Float) (h : EvalsWith s at 11 e names f top r end g) where
+  let_by : (q : Evaluated) (next : ℕ) → ((o : Out Value) (j n : ℕ) → AnswersTo o j top f r end g → closed s j ≡ Some n → AnswersTo o n top f q next g) → LetWith s at e names f top q next g
   unfolding rest
-  let_by q k = record {
+  let_by q next k = record {
     is = λ ps rd w l n er.
         let (x, j, ex, ez) = then-read (read_expr 11 s at) (λ x m. closing (let_line w x) s m) l n er in
         let (el, et) = closing-read (let_line w x) l s j n ez in
-        let a = (h.is ps rd).is x j ex in
-        (x, el, record { is = k (eval x e ps) j n a.is et; lies = a.lies; kept = a.kept });
+        (x, el, k (eval x e ps) j n ((h.is ps rd).is x j ex) et);
   }
 
-  pub let-not : (i : Halt) → r ≡ Err i → LetWith s at e names f top (Err i) g
-  let-not i ei = let_by (Err i) (λ o j n er et. not_at i o j n (sym ei ∙ er))
+  pub let-not : (i : Halt) → r ≡ Err i → (next : ℕ) → LetWith s at e names f top (Err i) next g
+  let-not i ei next = let_by (Err i) next (λ o j n a et. record { answers = subst (λ z. Answers o top f z g) ei a.answers; ends = λ k ek. not-ok i k ek })
 
-  module _ (kind end : ℕ) (er : r ≡ Ok (kind, end)) (c : Option ℕ) (ec : c ≡ closed s end) where
-    let-end : (q : Evaluated) → ((n : ℕ) → closed s end ≡ Some n → q ≡ Ok (kind, n)) → LetWith s at e names f top q g
-    unfolding evaluated
-    let-end q k = let_by q go
-      where
-        go : (o : Out Value) (j n : ℕ) → r ≡ evaluated o j → closed s j ≡ Some n → q ≡ evaluated o n
-        go (goes fs v) j n e et =
-            let (ik, i) = same-ok (sym er ∙ e) in
-            k n (ap (closed s) i ∙ et) ∙ ap (λ z. Ok (z, n)) ik
-        go (stops fs x) j n e et = not-ok _ _ (sym e ∙ er)
-        go (sticks fs) j n e et = not-ok _ _ (sym e ∙ er)
+  module _ (kind : ℕ) (er : r ≡ Ok kind) (c : Option ℕ) (ec : c ≡ closed s end) where
+    ended : (o : Out Value) (j n : ℕ) → AnswersTo o j top f r end g → closed s j ≡ Some n → c ≡ Some n
+    ended o j n a et = ec ∙ ap (closed s) (a.ends kind er) ∙ et
 
-    pub let-is : (next : ℕ) → c ≡ Some next → LetWith s at e names f top (Ok (kind, next)) g
-    let-is next en = let-end _ (λ n et. let i : next ≡ n = cc in ap (λ z. Ok (kind, z)) i)
+    pub let-is : (next : ℕ) → c ≡ Some next → LetWith s at e names f top (Ok kind) next g
+    let-is next en = let_by (Ok kind) next (λ o j n a et.
+        let i : ◌≡◌ {A = Option ℕ} (Some next) (Some n) = sym en ∙ ended o j n a et in
+        record { answers = subst (λ z. Answers o top f z g) er a.answers; ends = λ k ek. cc })
 
-    pub let-unended : c ≡ None → (q : Evaluated) → LetWith s at e names f top q g
-    let-unended en q = let-end q (λ n et. let z : ◌≡◌ {A = ℕ} 0 1 = cc in absurd (omega arith))
+    pub let-unended : c ≡ None → (q : Evaluated) (next : ℕ) → LetWith s at e names f top q next g
+    let-unended en q next = let_by q next (λ o j n a et.
+        let i : ◌≡◌ {A = Option ℕ} None (Some n) = sym en ∙ ended o j n a et in
+        let z : ◌≡◌ {A = ℕ} 0 1 = cc in absurd (omega arith))

@@ -37,7 +37,7 @@ use Rattle.sheets.specs.code.check.Newest as Search
 use Rattle.sheets.specs.code.run.Floats.{Lies}
 use Rattle.sheets.specs.code.run.Known.{Tabled, Ready}
 use Rattle.sheets.specs.code.run.Keeping.{nothing_kept, Lined, FixesKept}
-use Rattle.sheets.specs.code.run.Evaluating.{Evaluated, Answers}
+use Rattle.sheets.specs.code.run.Evaluating.{Evaluated, AnswersTo}
 use Rattle.sheets.specs.code.run.Running.{WithReadings, LetWith, GivenAt, stopped_at, Runs}
 use Rattle.sheets.specs.code.run.Wholes.{Names, LineDoes}
 use Rattle.sheets.proofs.reader.LineNumbers.{number-next}
@@ -145,28 +145,29 @@ module _ {s : List ℕ} {e : Ellipsoid} {rs : List Float} {d : List ℕ} {h : St
     -- ---- a let
 
     module _ (code value : ℕ) (says : (w : Word) × IsWord w × (code_of w ≡ code) × (read_line s h.at ≡ limit h.at (rest s (let_word w) value)))
-        (r : Evaluated) (g : List Float) (hl : LetWith s value e h.names h.floats (21 * (h.n + 1)) r g) where
-      let-here : (ls : List Line) (st : State) → Now s e rs d h ls st → (y : Line) (next : ℕ) → read_line s h.at ≡ got y next
-          → (x : Expr) × (y ≡ let_line says.0 x) × Answers (eval x st.ellipsoid st.scope.known) next (21 * (h.n + 1)) h.floats r g
-      let-here ls st now y next el =
-          let (er, short) = limit-read h.at (rest s (let_word says.0) value) y next (sym says.3 ∙ el) in
+        (r : Evaluated) (next : ℕ) (g : List Float) (hl : LetWith s value e h.names h.floats (21 * (h.n + 1)) r next g) where
+      let-here : (ls : List Line) (st : State) → Now s e rs d h ls st → (y : Line) (m : ℕ) → read_line s h.at ≡ got y m
+          → (x : Expr) × (y ≡ let_line says.0 x) × AnswersTo (eval x st.ellipsoid st.scope.known) m (21 * (h.n + 1)) h.floats r next g
+      let-here ls st now y m el =
+          let (er, short) = limit-read h.at (rest s (let_word says.0) value) y m (sym says.3 ∙ el) in
           let ready : Ready st.scope.known h.names h.floats (21 * (h.n + 1)) = record { slots = h.slots; readings = rs; n = h.n; listed = now.listed; tabled = now.tabled; below = omega arith } in
-          let (x, ey, a) = hl.is st.scope.known ready says.0 y next er in
-          (x, ey, subst (λ z. Answers (eval x z st.scope.known) next (21 * (h.n + 1)) h.floats r g) (sym now.surface) a)
+          let (x, ey, a) = hl.is st.scope.known ready says.0 y m er in
+          (x, ey, subst (λ z. AnswersTo (eval x z st.scope.known) m (21 * (h.n + 1)) h.floats r next g) (sym now.surface) a)
 
       pub runs-let-not : (i : Halt) → r ≡ Err i → (a : RunAnswer) → a ≡ stopped_at i h.line h.written → RunsFrom s e rs d h a h.out
       unfolding step
       runs-let-not i ei a ea = by-line a h.out (λ ls st now sp un.
           let (x, ey, an) = let-here ls st now sp.line sp.next sp.stands in
-          line-stops h.line st sp.line sp.rest (eval x st.ellipsoid st.scope.known) _ (ap (step h.line st) ey) i sp.next (sym ei ∙ an.is) h.written now.count d h.out now.text a ea un)
+          line-stops h.line st sp.line sp.rest (eval x st.ellipsoid st.scope.known) _ (ap (step h.line st) ey) i (sym ei ∙ an.answers.is) h.written now.count d h.out now.text a ea un)
 
       -- the name's slot is filled
-      pub runs-let : (kind next : ℕ) → r ≡ Ok (kind, next) → h.n < 95 → (y : Slot) (names : Given) → GivenAt code kind (h.n + 1) g h.names y names → (q : RunAnswer) (out' : List ℕ)
+      pub runs-let : (kind : ℕ) → r ≡ Ok kind → h.n < 95 → (y : Slot) (names : Given) → GivenAt code kind (h.n + 1) g h.names y names → (q : RunAnswer) (out' : List ℕ)
           → RunsFrom s e rs d (record { at = next; line = h.line + 1; slots = set h.slots (h.n + 1) y; names = names; shown = h.shown; floats = g; n = h.n + 1; written = h.written; out = h.out }) q out'
           → RunsFrom s e rs d h q out'
-      runs-let kind next er few y names hg q out' hr = by-line q out' (λ ls st now sp un.
+      runs-let kind er few y names hg q out' hr = by-line q out' (λ ls st now sp un.
           let (x, ex, an) = let-here ls st now sp.line sp.next sp.stands in
-          let (fs, v, eo, ev, lies, ek, en) = answers-is (eval x st.ellipsoid st.scope.known) sp.next (21 * (h.n + 1)) h.floats r g an kind next er in
+          let (fs, v, eo, ev, lies, ek) = answers-is (eval x st.ellipsoid st.scope.known) (21 * (h.n + 1)) h.floats r g an.answers kind er in
+          let en = an.ends kind er in
           let ew : y.word ≡ code = ap (λ (z : Slot). z.word) hg.slot_is in
           let eu : y.value ≡ v = ap (λ (z : Slot). z.value) hg.slot_is ∙ sym ev in
           let st' = given h.line says.0 v st in
@@ -180,12 +181,12 @@ module _ {s : List ℕ} {e : Ellipsoid} {rs : List Float} {d : List ℕ} {h : St
             surface = now.surface;
             tabled = subst (λ z. Tabled (given_on h.line says.0 v ∷ st.scope.known) (set h.slots z y) z rs) (omega arith)
                 (tabled-let st.scope.known h.slots h.n rs now.tabled (omega (arith, few, now.listed.slots)) says.0 says.1 v y (ew ∙ sym says.2) eu h.line);
-            listed = rw hg.names_are (listed-let h.slots rs h.names h.floats h.n now.listed few y code kind ew (ek ∙ ap (λ z. kind_code (kind_of z)) (sym eu)) (21 * (h.n + 1)) (omega arith) g an.kept (subst (Lies g (21 * (h.n + 1))) (sym eu) lies));
+            listed = rw hg.names_are (listed-let h.slots rs h.names h.floats h.n now.listed few y code kind ew (ek ∙ ap (λ z. kind_code (kind_of z)) (sym eu)) (21 * (h.n + 1)) (omega arith) g an.answers.kept (subst (Lies g (21 * (h.n + 1))) (sym eu) lies));
             lets = let_at now.lets h.n h.line;
             rising = rising-let now.lets h.n h.line now.rising;
             lined = subst (λ ws. Lined (given_on h.line says.0 v ∷ st.scope.known) ws (h.n + 1) (let_at now.lets h.n h.line)) (sym (ap (λ (x : Given). x.words) hg.names_are ∙ ap (set h.names.words (h.n + 1)) (sym says.2))) (subst (λ z. Lined (given_on h.line says.0 v ∷ st.scope.known) (set h.names.words z (code_of says.0)) z (let_at now.lets h.n h.line)) (omega arith)
                 (lined-let st.scope.known h.names.words h.n now.lets now.lined (omega (arith, few, now.listed.from.sizes.0)) says.0 says.1 v h.line));
-            kept = fixes-let (fixes st.entries) now.lets h.shown.places h.floats h.n now.kept h.line g an.kept;
+            kept = fixes-let (fixes st.entries) now.lets h.shown.places h.floats h.n now.kept h.line g an.answers.kept;
             sums = now.sums;
             count = now.count;
             bound = omega (arith, now.bound);
@@ -206,7 +207,7 @@ module _ {s : List ℕ} {e : Ellipsoid} {rs : List Float} {d : List ℕ} {h : St
       pub runs-whole-not : (i : Halt) → r ≡ Err i → (a : RunAnswer) → a ≡ stopped_at i h.line h.written → RunsFrom s e rs d h a out
       runs-whole-not i ei a ea = by-line a out (λ ls st now sp un.
           let (o, k, es, er, eo) = (whole_here ls st now sp.line sp.next sp.stands).1.stays i ei in
-          line-stops h.line st sp.line sp.rest o k es i 0 er h.written now.count d out (eo ∙ now.text) a ea un)
+          line-stops h.line st sp.line sp.rest o k es i er h.written now.count d out (eo ∙ now.text) a ea un)
 
       -- the text may grow by a line
       pub runs-whole : 2 ≤ h.line → (count : ℕ) → r ≡ Ok count → (q : RunAnswer) (out' : List ℕ)

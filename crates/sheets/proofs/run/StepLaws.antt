@@ -54,15 +54,15 @@ onwards i st st' y ys fs es d q out' k un =
     rw es (tells-after q out' d fs (steps (numbered (suc i) ys) st') (k' (unstuck-after fs (steps (numbered (suc i) ys) st') (rw es at un))))
 
 -- a line that comes to no value
-pub line-stops : (i : ℕ) (st : State) (y : Line) (ys : List Line) (o : Out Value) (k : Value → Out State) → step i st y ≡ thenᵒ o k → (h : Halt) (m : ℕ) → Err h ≡ evaluated o m
+pub line-stops : (i : ℕ) (st : State) (y : Line) (ys : List Line) (o : Out Value) (k : Value → Out State) → step i st y ≡ thenᵒ o k → (h : Halt) → Err h ≡ evaluated o
     → (n : ℕ) → n ≡ length (entry_lines st.entries) → (d out : List ℕ) → out ≡ laid (entry_lines st.entries) d → (a : RunAnswer) → a ≡ stopped_at h i n
     → Unstuck (steps (numbered i (y ∷ ys)) st) → Tells (steps (numbered i (y ∷ ys)) st) d a out
 unfolding steps evaluated stopped_at
-line-stops i st y ys (goes fs v) k es h m er n en d out eo a ea un = not-ok h _ er
-line-stops i st y ys (stops fs c) k es h m er n en d out eo a ea un =
+line-stops i st y ys (goes fs v) k es h er n en d out eo a ea un = not-ok h _ er
+line-stops i st y ys (stops fs c) k es h er n en d out eo a ea un =
     let eh : h ≡ Halt.Refused (code_for (stop c)) = cc in
     rw es (ea ∙ ap (λ z. stopped_at z i n) eh ∙ ap₂ (λ (q : Refusal) (z : ℕ). record { number = refusal_number q; line = i; written = z }) (code-is (stop c)) en, eo)
-line-stops i st y ys (sticks fs) k es h m er n en d out eo a ea un = absurd (rw es at un)
+line-stops i st y ys (sticks fs) k es h er n en d out eo a ea un = absurd (rw es at un)
 
 -- a let that does not stick gives its name
 abbrev pub given : ℕ → Word → Value → State → State
@@ -79,11 +79,11 @@ let-step i st w x fs v e y ey ys un =
     go false es = es
 
 -- where a let's answer is a value, it lies at the place
-pub answers-is : (o : Out Value) (m top : ℕ) (f : List Float) (r : Evaluated) (g : List Float) → Answers o m top f r g → (kind next : ℕ) → r ≡ Ok (kind, next)
-    → (fs : List LocalFrame) × (v : Value) × (o ≡ goes fs v) × (v ≡ value_at (kind_at kind) g top) × Lies g top v × (kind ≡ kind_code (kind_of v)) × (next ≡ m)
+pub answers-is : (o : Out Value) (top : ℕ) (f : List Float) (r : Evaluated) (g : List Float) → Answers o top f r g → (kind : ℕ) → r ≡ Ok kind
+    → (fs : List LocalFrame) × (v : Value) × (o ≡ goes fs v) × (v ≡ value_at (kind_at kind) g top) × Lies g top v × (kind ≡ kind_code (kind_of v))
 unfolding evaluated LiesOf
-answers-is (goes fs v) m top f r g a kind next er =
-    let (ek, en) = same-ok (sym er ∙ a.is) in
-    (fs, v, refl, sym a.lies.is ∙ ap (λ k. value_at k g top) (sym (kind-at (kind_of v)).0 ∙ ap kind_at (sym ek)), a.lies, ek, en)
-answers-is (stops fs c) m top f r g a kind next er = not-ok _ _ (sym a.is ∙ er)
-answers-is (sticks fs) m top f r g a kind next er = not-ok _ _ (sym a.is ∙ er)
+answers-is (goes fs v) top f r g a kind er =
+    let ek = same-ok (sym er ∙ a.is) in
+    (fs, v, refl, sym a.lies.is ∙ ap (λ k. value_at k g top) (sym (kind-at (kind_of v)).0 ∙ ap kind_at (sym ek)), a.lies, ek)
+answers-is (stops fs c) top f r g a kind er = not-ok _ _ (sym a.is ∙ er)
+answers-is (sticks fs) top f r g a kind er = not-ok _ _ (sym a.is ∙ er)

@@ -54,11 +54,11 @@ module _ (s : List ℕ) (from end : ℕ) (v : Value) (out : List ℕ) (written :
     tested-in h m d w = record { is = rw (← eb, h) (m, refl, w) }
 
   module _ (r : Result ℕ Halt) (d : List ℕ) (h : TestedLine s from end v out written r d) where
-    pub tested-not : (i : Halt) → r ≡ Err i → (Err i ≡ evaluated (met v) 0) × (d ≡ out) × (in_limit v ≡ false)
+    pub tested-not : (i : Halt) → r ≡ Err i → (Err i ≡ evaluated (met v)) × (d ≡ out) × (in_limit v ≡ false)
     unfolding TestedIf evaluated
     tested-not i ei = go (in_limit v) refl h.is
       where
-        go : (b : Bool) → in_limit v ≡ b → TestedIf b s from end v out written r d → (Err i ≡ evaluated (met v) 0) × (d ≡ out) × (in_limit v ≡ false)
+        go : (b : Bool) → in_limit v ≡ b → TestedIf b s from end v out written r d → (Err i ≡ evaluated (met v)) × (d ≡ out) × (in_limit v ≡ false)
         go true e (m, er, w) = let z : ◌≡◌ {A = ℕ} 0 1 = cc in absurd (omega arith)
         go false e (er, ed) = let same : i ≡ Halt.Refused Code.Limit = cc in rw e (ap (λ z. Err z) same, ed, refl)
 

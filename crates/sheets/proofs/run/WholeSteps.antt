@@ -66,7 +66,7 @@ halted e = cc
 
 -- the line does not go on, and nothing is written; or the machine goes on to a state behind it
 pub record Comes (h : Stage) (lets : ℕ → ℕ) (d : List ℕ) (st : State) (l : Line) (r : Result ℕ Halt) (shown : Shown) (out : List ℕ) : Type 0 where
-  pub stays : (i : Halt) → r ≡ Err i → (o : Out Value) × (k : Value → Out State) × (step h.line st l ≡ thenᵒ o k) × (Err i ≡ evaluated o 0) × (out ≡ h.out)
+  pub stays : (i : Halt) → r ≡ Err i → (o : Out Value) × (k : Value → Out State) × (step h.line st l ≡ thenᵒ o k) × (Err i ≡ evaluated o) × (out ≡ h.out)
   pub goes_on : (count : ℕ) → r ≡ Ok count → (st' : State) × (step h.line st l ≡ goes [] st') × Behind h lets d st st' shown count out
 
 module _ {s : List ℕ} {e : Ellipsoid} {rs : List Float} {d : List ℕ} {h : Stage} {ls : List Line} {st : State} (now : Now s e rs d h ls st) (high : h.line ≤ 96)
@@ -131,7 +131,7 @@ module _ {s : List ℕ} {e : Ellipsoid} {rs : List Float} {d : List ℕ} {h : St
   unfolding step apart_answer evaluated in_limit
   apart-comes q er ek eo = go (near (num_value (signless q))) refl (stand_apart (num_value (signless q)) (fixes st.entries)) refl (er ∙ ap (λ b. when (near (num_value (signless q))) (when b (Ok h.written) (Err (Halt.Refused Code.Apart))) (Err (Halt.Refused Code.Limit))) (stand-is (num_value (signless q)) h.floats h.shown.places (fixes st.entries) now.lets h.n h.line now.kept now.rising now.listed.from.few))
     where
-      stopping : (o : Out Value) (k : Value → Out State) (c : Code) → step h.line st (apart_line q) ≡ thenᵒ o k → Err (Halt.Refused c) ≡ evaluated o 0 → r ≡ Err (Halt.Refused c) → Comes-to (apart_line q)
+      stopping : (o : Out Value) (k : Value → Out State) (c : Code) → step h.line st (apart_line q) ≡ thenᵒ o k → Err (Halt.Refused c) ≡ evaluated o → r ≡ Err (Halt.Refused c) → Comes-to (apart_line q)
       stopping o k c es eq e = record {
         stays = λ i ei. (o, k, es, ap (λ z. Err z) (halted (sym ei ∙ e)) ∙ eq, eo);
         goes_on = λ count i. let z : ◌≡◌ {A = ℕ} 0 1 = cc in absurd (omega arith);

@@ -13,20 +13,13 @@ use crate::{Evaluated, Halt};
 use frames::{Ellipsoid, Orientation};
 
 // The row for the word with this code, over arguments of the kinds that made the key, which is written as in kinds.rt: by the key, then by the word.
-// Compiled into the evaluator: the run of a sheet of brackets takes a few hundredths less so.
+// Compiled into the evaluator: the run of a sheet of nested brackets takes a few hundredths less so.
 #[inline(always)]
-pub fn apply(
-    e: Ellipsoid,
-    code: u64,
-    key: u64,
-    floats: &mut [f64; 2940],
-    top: usize,
-    end: usize,
-) -> Evaluated
+pub fn apply(e: Ellipsoid, code: u64, key: u64, floats: &mut [f64; 2940], top: usize) -> Evaluated
     requires { top + 105 ≤ 2940 }
-    ensures { ForKinds e code key floats.old top end result floats.new }
+    ensures { ForKinds e code key floats.old top result floats.new }
 {
-    let b = Bracket { e, code, top, end };
+    let b = Bracket { e, code, top };
     match key {
         0x1 => number_row(b, floats),
         0x333 => lengths_row(b, floats),
@@ -71,7 +64,7 @@ fn orientation_by(key: u64) -> Orientation
 // The keys with a vector or a frame in them; where there are two, they share the orientation, and the first digit tells it.
 #[inline(always)]
 fn oriented_row(b: Bracket, key: u64, floats: &mut [f64; 2940]) -> Evaluated
-    ensures { ForKindsBeyond plain_keys b.e b.code key floats.old b.top b.end result floats.new }
+    ensures { ForKindsBeyond plain_keys b.e b.code key floats.old b.top result floats.new }
 {
     let o = orientation_by(key);
     match key {

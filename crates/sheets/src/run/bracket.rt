@@ -3,13 +3,12 @@ ghost use Rattle.std.specs.Prelude.{◌+◌, ◌≤◌};
 
 use frames::Ellipsoid;
 
-// The sheet's ellipsoid, the code of the bracket's word, where its first argument lies among the floats, and the place in the sheet after it.
+// The sheet's ellipsoid, the code of the bracket's word, and where its first argument lies among the floats.
 #[derive(Clone, Copy)]
 pub struct Bracket {
     pub e: Ellipsoid,
     pub code: u64,
     pub top: usize,
-    pub end: usize,
     // Five arguments have room, each as long as a frame.
     ghost room: { top + 105 ≤ 2940 },
 }

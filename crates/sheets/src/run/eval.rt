@@ -15,37 +15,41 @@ use crate::run::readings::reading_index;
 use crate::{Evaluated, Halt};
 use frames::Ellipsoid;
 
-// What the word with this code stands for, laid at `top`; `end` is the place after the word.
-fn known(code: u64, end: usize, names: &Names, floats: &mut [f64; 2940], top: usize) -> Evaluated
+// What the word with this code stands for, laid at `top`.
+fn known(code: u64, names: &Names, floats: &mut [f64; 2940], top: usize) -> Evaluated
     requires { top + 21 ≤ 2940 }
-    ensures { KnownWith code end names.now floats.old top result floats.new }
+    ensures { KnownWith code names.now floats.old top result floats.new }
 {
     let Some(j) = names.place(code) else {
         let Some(i) = reading_index(code) else {
             return Err(Halt::Sticks);
         };
         floats[top] = floats[i];
-        return tested(0, floats, top, end);
+        return tested(0, floats, top);
     };
     let kind = names.kinds[j];
     copy_floats(floats, 21 * j, top);
-    tested(kind, floats, top, end)
+    tested(kind, floats, top)
 }
 
 // A word or a NUM.
-fn leaf(s: &[u8], at: usize, names: &Names, floats: &mut [f64; 2940], top: usize) -> Evaluated
+fn leaf(s: &[u8], at: &mut usize, names: &Names, floats: &mut [f64; 2940], top: usize) -> Evaluated
     requires { top + 21 ≤ 2940 }
-    ensures { LeafWith s.now at names.now floats.old top result floats.new }
+    ensures { LeafWith s.now at.old names.now floats.old top result at.new floats.new }
 {
-    let w = word(s, at);
+    let w = word(s, *at);
     match w {
-        Some((code, end)) => known(code, end, names, floats, top),
+        Some((code, end)) => {
+            *at = end;
+            known(code, names, floats, top)
+        }
         None => {
-            let q = double(s, at);
+            let q = double(s, *at);
             match q {
                 Some((x, end)) => {
+                    *at = end;
                     floats[top] = x;
-                    tested(0, floats, top, end)
+                    tested(0, floats, top)
                 }
                 None => Err(Halt::Sticks),
             }
@@ -53,11 +57,11 @@ fn leaf(s: &[u8], at: usize, names: &Names, floats: &mut [f64; 2940], top: usize
     }
 }
 
-// The expression at a place, with at most `depth` brackets in each other.
+// The expression at a place, with at most `depth` brackets in each other. Where there is a value, `at` is then the place after the expression.
 #[cycle(bracket_eval)]
 pub fn eval(
     s: &[u8],
-    at: usize,
+    at: &mut usize,
     depth: usize,
     e: Ellipsoid,
     names: &Names,
@@ -65,18 +69,19 @@ pub fn eval(
     top: usize,
 ) -> Evaluated
     requires { top + 84 * depth + 21 ≤ 2940 }
-    ensures { EvalsWith s.now at depth e names.now floats.old top result floats.new }
+    ensures { EvalsWith s.now at.old depth e names.now floats.old top result at.new floats.new }
 {
-    let b = byte(s, at);
+    let b = byte(s, *at);
     if b == b'(' {
         if depth == 0 {
             return Err(Halt::Sticks);
         }
-        let w = word(s, at + 1);
+        let w = word(s, *at + 1);
         let Some((code, start)) = w else {
             return Err(Halt::Sticks);
         };
-        return bracket(s, start, depth - 1, e, code, names, floats, top);
+        *at = start;
+        return bracket(s, at, depth - 1, e, code, names, floats, top);
     }
     leaf(s, at, names, floats, top)
 }
@@ -85,7 +90,7 @@ pub fn eval(
 #[cycle(bracket_eval)]
 pub fn bracket(
     s: &[u8],
-    at: usize,
+    at: &mut usize,
     depth: usize,
     e: Ellipsoid,
     code: u64,
@@ -94,21 +99,21 @@ pub fn bracket(
     top: usize,
 ) -> Evaluated
     requires { top + 84 * depth + 105 ≤ 2940 }
-    ensures { BracketWith s.now at depth 5 e code names.now 0 floats.old top result floats.new }
+    ensures { BracketWith s.now at.old depth 5 e code names.now 0 floats.old top result at.new floats.new }
 {
-    let mut i = at;
     let mut key: u64 = 0;
     for n in 0..5usize {
-        if byte(s, i) != b' ' {
+        if byte(s, *at) != b' ' {
             break;
         }
+        *at += 1;
         let room = top + 21 * n;
-        let (kind, end) = eval(s, i + 1, depth, e, names, floats, room)?;
+        let kind = eval(s, at, depth, e, names, floats, room)?;
         key = key * 16 + kind as u64 + 1;
-        i = end;
     }
-    if byte(s, i) == b')' {
-        return apply(e, code, key, floats, top, i + 1);
+    if byte(s, *at) == b')' {
+        *at += 1;
+        return apply(e, code, key, floats, top);
     }
     Err(Halt::Sticks)
 }

@@ -1,4 +1,4 @@
-// What is met or made, laid as floats from a place on: its kind's code and the place in the sheet after it, once the test of refusal 7 is passed.
+// What is met or made, laid as floats from a place on: its kind's code, once the test of refusal 7 is passed.
 ghost use Rattle.std.specs.Prelude.{◌≡◌, ◌+◌, ◌≤◌};
 ghost use Rattle.sheets.specs.declared.Value.{Value};
 ghost use Rattle.sheets.specs.code.rows.Applied.{giving};
@@ -80,12 +80,12 @@ impl AsFloats for LocalFrame {
 }
 
 // The test of refusal 7, of the value of the kind with this code (kinds go by their codes, as check/names.rt says) that lies at a place.
-pub fn tested(kind: u8, floats: &[f64; 2940], top: usize, end: usize) -> Evaluated
+pub fn tested(kind: u8, floats: &[f64; 2940], top: usize) -> Evaluated
     requires { top + 21 ≤ 2940 }
-    ensures { result ≡ tested_at kind floats.now top end }
+    ensures { result ≡ tested_at kind floats.now top }
 {
     if in_limit_at(kind, floats, top) {
-        return Ok((kind, end));
+        return Ok(kind);
     }
     Err(Halt::Refused(Refusal::Limit))
 }
@@ -102,16 +102,11 @@ impl From<Unapplied> for Halt {
 }
 
 // A row's answer.
-pub fn laid<T: AsFloats>(
-    r: Result<T, Unapplied>,
-    floats: &mut [f64; 2940],
-    top: usize,
-    end: usize,
-) -> Evaluated
+pub fn laid<T: AsFloats>(r: Result<T, Unapplied>, floats: &mut [f64; 2940], top: usize) -> Evaluated
     requires { top + 21 ≤ 2940 }
-    ensures { LaidAs (giving T.value r) floats.old top end result floats.new }
+    ensures { LaidAs (giving T.value r) floats.old top result floats.new }
 {
     let x = r?;
     let kind = x.lay(floats, top);
-    tested(kind, floats, top, end)
+    tested(kind, floats, top)
 }

@@ -15,21 +15,22 @@ use crate::run::whole::{named, whole_line};
 use crate::{Evaluated, Halt};
 use frames::Ellipsoid;
 
-// What a let gives, from the place of its expression: the kind's code of its value, which lies at `top`, and the place of the next line.
+// What a let gives, from the place of its expression: the kind's code of its value, which lies at `top`. Where there is one, `at` is then the place of the next line.
 fn let_value(
     s: &[u8],
-    at: usize,
+    at: &mut usize,
     e: Ellipsoid,
     names: &Names,
     floats: &mut [f64; 2940],
     top: usize,
 ) -> Evaluated
     requires { top + 945 ≤ 2940 }
-    ensures { LetWith s.now at e names.now floats.old top result floats.new }
+    ensures { LetWith s.now at.old e names.now floats.old top result at.new floats.new }
 {
-    let (kind, end) = eval(s, at, 11, e, names, floats, top)?;
-    let after = closing(s, end).ok_or(Halt::Sticks)?;
-    Ok((kind, after))
+    let kind = eval(s, at, 11, e, names, floats, top)?;
+    let after = closing(s, *at).ok_or(Halt::Sticks)?;
+    *at = after;
+    Ok(kind)
 }
 
 // A name is given at a place, where its value lies: `names` get its word and its kind, and its slot is answered.
@@ -76,13 +77,13 @@ pub fn run_lines(s: &[u8], from: usize, e: Ellipsoid, readings: &[f64], out: &mu
             None => return run_answer(0, line, written),
             Some(LineHead::Let(name, value)) => {
                 n += 1;
-                match let_value(s, value, e, &names, &mut floats, 21 * n) {
+                at = value;
+                match let_value(s, &mut at, e, &names, &mut floats, 21 * n) {
                     Err(halt) => {
                         return stopped(halt, line, written);
                     }
-                    Ok((kind, next)) => {
+                    Ok(kind) => {
                         t[n] = give(name, kind, n, &floats, &mut names);
-                        at = next;
                     }
                 }
             }

@@ -14,29 +14,29 @@ use frames::Orientation;
 
 // v: neg, swap, bearing, elev, range.
 pub fn vector_row(b: Bracket, o: Orientation, floats: &mut [f64; 2940]) -> Evaluated
-    ensures { RowLaid b.e b.code (vector o ∷ []) floats.old b.top b.end result floats.new }
+    ensures { RowLaid b.e b.code (vector o ∷ []) floats.old b.top result floats.new }
 {
     let vector = vector_at(floats, b.top, o);
     match b.code {
-        words::NEG => laid(rows::apply_neg(b.e, vector), floats, b.top, b.end),
-        words::SWAP => laid(rows::apply_swap(b.e, vector), floats, b.top, b.end),
-        words::BEARING => laid(rows::apply_bearing(b.e, vector), floats, b.top, b.end),
-        words::ELEV => laid(rows::apply_elev(b.e, vector), floats, b.top, b.end),
-        words::RANGE => laid(rows::apply_range(b.e, vector), floats, b.top, b.end),
+        words::NEG => laid(rows::apply_neg(b.e, vector), floats, b.top),
+        words::SWAP => laid(rows::apply_swap(b.e, vector), floats, b.top),
+        words::BEARING => laid(rows::apply_bearing(b.e, vector), floats, b.top),
+        words::ELEV => laid(rows::apply_elev(b.e, vector), floats, b.top),
+        words::RANGE => laid(rows::apply_range(b.e, vector), floats, b.top),
         _ => Err(Halt::Sticks),
     }
 }
 
 // v v: add, sub.
 pub fn vectors_row(b: Bracket, o: Orientation, floats: &mut [f64; 2940]) -> Evaluated
-    ensures { RowLaid b.e b.code (vector o ∷ vector o ∷ []) floats.old b.top b.end result floats.new }
+    ensures { RowLaid b.e b.code (vector o ∷ vector o ∷ []) floats.old b.top result floats.new }
 {
     let v = vector_at(floats, b.top, o);
     let w = vector_at(floats, b.top + 21, o);
     match b.code {
         words::ADD | words::SUB => {
             let minus = b.code == words::SUB;
-            laid(rows::apply_sum(b.e, minus, v, w), floats, b.top, b.end)
+            laid(rows::apply_sum(b.e, minus, v, w), floats, b.top)
         }
         _ => Err(Halt::Sticks),
     }
@@ -44,12 +44,12 @@ pub fn vectors_row(b: Bracket, o: Orientation, floats: &mut [f64; 2940]) -> Eval
 
 // v n: scale.
 pub fn scale_row(b: Bracket, o: Orientation, floats: &mut [f64; 2940]) -> Evaluated
-    ensures { RowLaid b.e b.code (vector o ∷ number ∷ []) floats.old b.top b.end result floats.new }
+    ensures { RowLaid b.e b.code (vector o ∷ number ∷ []) floats.old b.top result floats.new }
 {
     let vector = vector_at(floats, b.top, o);
     let factor = number_at(floats, b.top + 21);
     if b.code == words::SCALE {
-        return laid(rows::apply_scale(b.e, vector, factor), floats, b.top, b.end);
+        return laid(rows::apply_scale(b.e, vector, factor), floats, b.top);
     }
     Err(Halt::Sticks)
 }
@@ -67,14 +67,14 @@ fn axis_in(code: u64) -> Axis
 
 // f: origin, rz, ry, rx.
 pub fn frame_row(b: Bracket, o: Orientation, floats: &mut [f64; 2940]) -> Evaluated
-    ensures { RowLaid b.e b.code (frame o ∷ []) floats.old b.top b.end result floats.new }
+    ensures { RowLaid b.e b.code (frame o ∷ []) floats.old b.top result floats.new }
 {
     let frame = frame_at(floats, b.top, o);
     match b.code {
-        words::ORIGIN => laid(rows::apply_origin(b.e, frame), floats, b.top, b.end),
+        words::ORIGIN => laid(rows::apply_origin(b.e, frame), floats, b.top),
         words::RZ | words::RY | words::RX => {
             let axis = axis_in(b.code);
-            laid(rows::apply_angle(b.e, axis, frame), floats, b.top, b.end)
+            laid(rows::apply_angle(b.e, axis, frame), floats, b.top)
         }
         _ => Err(Halt::Sticks),
     }
@@ -82,48 +82,43 @@ pub fn frame_row(b: Bracket, o: Orientation, floats: &mut [f64; 2940]) -> Evalua
 
 // f a: turn.
 pub fn turn_row(b: Bracket, o: Orientation, floats: &mut [f64; 2940]) -> Evaluated
-    ensures { RowLaid b.e b.code (frame o ∷ angle ∷ []) floats.old b.top b.end result floats.new }
+    ensures { RowLaid b.e b.code (frame o ∷ angle ∷ []) floats.old b.top result floats.new }
 {
     let frame = frame_at(floats, b.top, o);
     let angle = angle_at(floats, b.top + 21);
     if b.code == words::TURN {
-        return laid(
-            frame_rows::apply_turn(b.e, frame, angle),
-            floats,
-            b.top,
-            b.end,
-        );
+        return laid(frame_rows::apply_turn(b.e, frame, angle), floats, b.top);
     }
     Err(Halt::Sticks)
 }
 
 // f g: to.
 pub fn to_row(b: Bracket, o: Orientation, floats: &mut [f64; 2940]) -> Evaluated
-    ensures { RowLaid b.e b.code (frame o ∷ geocentric ∷ []) floats.old b.top b.end result floats.new }
+    ensures { RowLaid b.e b.code (frame o ∷ geocentric ∷ []) floats.old b.top result floats.new }
 {
     let frame = frame_at(floats, b.top, o);
     let position = geocentric_at(floats, b.top + 21);
     if b.code == words::TO {
-        return laid(rows::apply_to(b.e, frame, position), floats, b.top, b.end);
+        return laid(rows::apply_to(b.e, frame, position), floats, b.top);
     }
     Err(Halt::Sticks)
 }
 
 // f v: at.
 pub fn at_row(b: Bracket, o: Orientation, floats: &mut [f64; 2940]) -> Evaluated
-    ensures { RowLaid b.e b.code (frame o ∷ vector o ∷ []) floats.old b.top b.end result floats.new }
+    ensures { RowLaid b.e b.code (frame o ∷ vector o ∷ []) floats.old b.top result floats.new }
 {
     let frame = frame_at(floats, b.top, o);
     let vector = vector_at(floats, b.top + 21, o);
     if b.code == words::AT {
-        return laid(rows::apply_at(b.e, frame, vector), floats, b.top, b.end);
+        return laid(rows::apply_at(b.e, frame, vector), floats, b.top);
     }
     Err(Halt::Sticks)
 }
 
 // f v a a a: move.
 pub fn move_row(b: Bracket, o: Orientation, floats: &mut [f64; 2940]) -> Evaluated
-    ensures { RowLaid b.e b.code (frame o ∷ vector o ∷ angle ∷ angle ∷ angle ∷ []) floats.old b.top b.end result floats.new }
+    ensures { RowLaid b.e b.code (frame o ∷ vector o ∷ angle ∷ angle ∷ angle ∷ []) floats.old b.top result floats.new }
 {
     let frame = frame_at(floats, b.top, o);
     let vector = vector_at(floats, b.top + 21, o);
@@ -135,7 +130,6 @@ pub fn move_row(b: Bracket, o: Orientation, floats: &mut [f64; 2940]) -> Evaluat
             frame_rows::apply_move(b.e, frame, vector, yaw, pitch, roll),
             floats,
             b.top,
-            b.end,
         );
     }
     Err(Halt::Sticks)

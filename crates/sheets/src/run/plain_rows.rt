@@ -16,12 +16,12 @@ use frames::Orientation;
 // n: deg, m.
 #[inline(always)]
 pub fn number_row(b: Bracket, floats: &mut [f64; 2940]) -> Evaluated
-    ensures { RowLaid b.e b.code (number ∷ []) floats.old b.top b.end result floats.new }
+    ensures { RowLaid b.e b.code (number ∷ []) floats.old b.top result floats.new }
 {
     let number = number_at(floats, b.top);
     match b.code {
-        words::DEG => laid(rows::apply_deg(b.e, number), floats, b.top, b.end),
-        words::M => laid(rows::apply_m(b.e, number), floats, b.top, b.end),
+        words::DEG => laid(rows::apply_deg(b.e, number), floats, b.top),
+        words::M => laid(rows::apply_m(b.e, number), floats, b.top),
         _ => Err(Halt::Sticks),
     }
 }
@@ -40,16 +40,16 @@ fn orientation_in(code: u64) -> Orientation
 
 // l l l: geo, and venu to vwan.
 pub fn lengths_row(b: Bracket, floats: &mut [f64; 2940]) -> Evaluated
-    ensures { RowLaid b.e b.code (len ∷ len ∷ len ∷ []) floats.old b.top b.end result floats.new }
+    ensures { RowLaid b.e b.code (len ∷ len ∷ len ∷ []) floats.old b.top result floats.new }
 {
     let x = length_at(floats, b.top);
     let y = length_at(floats, b.top + 21);
     let z = length_at(floats, b.top + 42);
     match b.code {
-        words::GEO => laid(rows::apply_geo(b.e, x, y, z), floats, b.top, b.end),
+        words::GEO => laid(rows::apply_geo(b.e, x, y, z), floats, b.top),
         words::VENU | words::VNED | words::VBODY | words::VWAN => {
             let o = orientation_in(b.code);
-            laid(rows::apply_vector(b.e, o, x, y, z), floats, b.top, b.end)
+            laid(rows::apply_vector(b.e, o, x, y, z), floats, b.top)
         }
         _ => Err(Halt::Sticks),
     }
@@ -57,7 +57,7 @@ pub fn lengths_row(b: Bracket, floats: &mut [f64; 2940]) -> Evaluated
 
 // a a l: lla of latitude, longitude, height, and aenu to awan of azimuth, elevation, range.
 pub fn aer_row(b: Bracket, floats: &mut [f64; 2940]) -> Evaluated
-    ensures { RowLaid b.e b.code (angle ∷ angle ∷ len ∷ []) floats.old b.top b.end result floats.new }
+    ensures { RowLaid b.e b.code (angle ∷ angle ∷ len ∷ []) floats.old b.top result floats.new }
 {
     let azimuth = angle_at(floats, b.top);
     let elevation = angle_at(floats, b.top + 21);
@@ -67,7 +67,6 @@ pub fn aer_row(b: Bracket, floats: &mut [f64; 2940]) -> Evaluated
             rows::apply_lla(b.e, azimuth, elevation, range),
             floats,
             b.top,
-            b.end,
         ),
         words::AENU | words::ANED | words::ABODY | words::AWAN => {
             let o = orientation_in(b.code);
@@ -75,7 +74,6 @@ pub fn aer_row(b: Bracket, floats: &mut [f64; 2940]) -> Evaluated
                 rows::apply_aer(b.e, o, azimuth, elevation, range),
                 floats,
                 b.top,
-                b.end,
             )
         }
         _ => Err(Halt::Sticks),
@@ -85,20 +83,15 @@ pub fn aer_row(b: Bracket, floats: &mut [f64; 2940]) -> Evaluated
 // P: togeo, tolla, enu, ned. P is the kind with this code, g or d; the row itself answers togeo of g and tolla of d.
 pub fn position_row(b: Bracket, kind: u8, floats: &mut [f64; 2940]) -> Evaluated
     requires { (3 ≤ kind) × (kind ≤ 4) }
-    ensures { RowLaid b.e b.code (kind_at kind ∷ []) floats.old b.top b.end result floats.new }
+    ensures { RowLaid b.e b.code (kind_at kind ∷ []) floats.old b.top result floats.new }
 {
     let position = value_at(kind, floats, b.top);
     match b.code {
-        words::TOGEO => laid(frame_rows::apply_togeo(b.e, position), floats, b.top, b.end),
-        words::TOLLA => laid(frame_rows::apply_tolla(b.e, position), floats, b.top, b.end),
+        words::TOGEO => laid(frame_rows::apply_togeo(b.e, position), floats, b.top),
+        words::TOLLA => laid(frame_rows::apply_tolla(b.e, position), floats, b.top),
         words::ENU | words::NED => {
             let ned = b.code == words::NED;
-            laid(
-                frame_rows::apply_level(b.e, ned, position),
-                floats,
-                b.top,
-                b.end,
-            )
+            laid(frame_rows::apply_level(b.e, ned, position), floats, b.top)
         }
         _ => Err(Halt::Sticks),
     }
@@ -106,24 +99,19 @@ pub fn position_row(b: Bracket, kind: u8, floats: &mut [f64; 2940]) -> Evaluated
 
 // a P: wan.
 pub fn wan_row(b: Bracket, kind: u8, floats: &mut [f64; 2940]) -> Evaluated
-    ensures { RowLaid b.e b.code (angle ∷ kind_at kind ∷ []) floats.old b.top b.end result floats.new }
+    ensures { RowLaid b.e b.code (angle ∷ kind_at kind ∷ []) floats.old b.top result floats.new }
 {
     let azimuth = angle_at(floats, b.top);
     let position = value_at(kind, floats, b.top + 21);
     if b.code == words::WAN {
-        return laid(
-            frame_rows::apply_wan(b.e, azimuth, position),
-            floats,
-            b.top,
-            b.end,
-        );
+        return laid(frame_rows::apply_wan(b.e, azimuth, position), floats, b.top);
     }
     Err(Halt::Sticks)
 }
 
 // a a a P: body.
 pub fn body_row(b: Bracket, kind: u8, floats: &mut [f64; 2940]) -> Evaluated
-    ensures { RowLaid b.e b.code (angle ∷ angle ∷ angle ∷ kind_at kind ∷ []) floats.old b.top b.end result floats.new }
+    ensures { RowLaid b.e b.code (angle ∷ angle ∷ angle ∷ kind_at kind ∷ []) floats.old b.top result floats.new }
 {
     let yaw = angle_at(floats, b.top);
     let pitch = angle_at(floats, b.top + 21);
@@ -134,7 +122,6 @@ pub fn body_row(b: Bracket, kind: u8, floats: &mut [f64; 2940]) -> Evaluated
             frame_rows::apply_body(b.e, yaw, pitch, roll, position),
             floats,
             b.top,
-            b.end,
         );
     }
     Err(Halt::Sticks)
@@ -142,7 +129,7 @@ pub fn body_row(b: Bracket, kind: u8, floats: &mut [f64; 2940]) -> Evaluated
 
 // P P a: look.
 pub fn look_row(b: Bracket, kind: u8, floats: &mut [f64; 2940]) -> Evaluated
-    ensures { RowLaid b.e b.code (kind_at kind ∷ kind_at kind ∷ angle ∷ []) floats.old b.top b.end result floats.new }
+    ensures { RowLaid b.e b.code (kind_at kind ∷ kind_at kind ∷ angle ∷ []) floats.old b.top result floats.new }
 {
     let position = value_at(kind, floats, b.top);
     let target = value_at(kind, floats, b.top + 21);
@@ -152,7 +139,6 @@ pub fn look_row(b: Bracket, kind: u8, floats: &mut [f64; 2940]) -> Evaluated
             frame_rows::apply_look(b.e, position, target, roll),
             floats,
             b.top,
-            b.end,
         );
     }
     Err(Halt::Sticks)

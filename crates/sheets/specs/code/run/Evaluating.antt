@@ -30,15 +30,15 @@ use Rattle.sheets.specs.code.run.Floats.{value_at, values_at, Lies, KeptBelow}
 use Rattle.sheets.specs.code.run.Known.{Ready}
 use Rattle.sheets.specs.declared.check.names.Names.{Names}
 
--- a kind's code and a place, or why the machine halts
+-- a kind's code, or why the machine halts
 abbrev pub Evaluated : Type 0
-Evaluated = Result (ℕ × ℕ) Halt
+Evaluated = Result ℕ Halt
 
--- the code of the value's kind and the place after the expression, or the refusal that stops the machine
-unfoldable pub evaluated : Out Value → ℕ → Evaluated
-evaluated (goes fs x) n = Ok (kind_code (kind_of x), n)
-evaluated (stops fs r) n = Err (Halt.Refused (code_for (stop r)))
-evaluated (sticks fs) n = Err Halt.Sticks
+-- the code of the value's kind, or the refusal that stops the machine
+unfoldable pub evaluated : Out Value → Evaluated
+evaluated (goes fs x) = Ok (kind_code (kind_of x))
+evaluated (stops fs r) = Err (Halt.Refused (code_for (stop r)))
+evaluated (sticks fs) = Err Halt.Sticks
 
 -- the value, where there is one, lies at a place
 unfoldable pub LiesOf : Out Value → List Float → ℕ → Type 0
@@ -46,15 +46,20 @@ LiesOf (goes fs x) f at = Lies f at x
 LiesOf (stops fs r) f at = Unit {0}
 LiesOf (sticks fs) f at = Unit {0}
 
--- r answers what the machine comes to, up to the place n, and the value lies at `top`, where f was and f' is now
-pub record Answers (o : Out Value) (n top : ℕ) (f : List Float) (r : Evaluated) (f' : List Float) : Type 0 where
-  pub is : r ≡ evaluated o n
+-- r answers what the machine comes to, and the value lies at `top`, where f was and f' is now
+pub record Answers (o : Out Value) (top : ℕ) (f : List Float) (r : Evaluated) (f' : List Float) : Type 0 where
+  pub is : r ≡ evaluated o
   pub lies : LiesOf o f' top
   pub kept : KeptBelow f top f'
 
+-- the same, where what was read ends at n: where there is a value, m is n
+pub record AnswersTo (o : Out Value) (n top : ℕ) (f : List Float) (r : Evaluated) (m : ℕ) (f' : List Float) : Type 0 where
+  pub answers : Answers o top f r f'
+  pub ends : (k : ℕ) → r ≡ Ok k → m ≡ n
+
 -- the test of refusal 7
-abbrev pub tested_at : ℕ → List Float → ℕ → ℕ → Evaluated
-tested_at k f at n = when (in_limit (value_at (kind_at k) f at)) (Ok (k, n)) (Err (Halt.Refused Code.Limit))
+abbrev pub tested_at : ℕ → List Float → ℕ → Evaluated
+tested_at k f at = when (in_limit (value_at (kind_at k) f at)) (Ok k) (Err (Halt.Refused Code.Limit))
 
 -- ---- a row
 
@@ -70,20 +75,20 @@ unapplied NoRow = Halt.Sticks
 unapplied Centre = Halt.Refused (code_for (stop centre))
 
 -- q answers a row's answer
-pub record LaidAs (r : Result Value Unapplied) (f : List Float) (at n : ℕ) (q : Evaluated) (f' : List Float) : Type 0 where
-  pub is : length f ≡ 2940 → Answers (out_of r) n at f q f'
+pub record LaidAs (r : Result Value Unapplied) (f : List Float) (at : ℕ) (q : Evaluated) (f' : List Float) : Type 0 where
+  pub is : length f ≡ 2940 → Answers (out_of r) at f q f'
 
 -- q answers the row for the word with this code over values of these kinds that lie at a place
-pub record RowLaid (e : Ellipsoid) (code : ℕ) (ks : List Kind) (f : List Float) (at n : ℕ) (q : Evaluated) (f' : List Float) : Type 0 where
-  pub is : length f ≡ 2940 → (w : Word) → IsWord w → code ≡ code_of w → Answers (apply_row e (find table w (values_at ks f at))) n at f q f'
+pub record RowLaid (e : Ellipsoid) (code : ℕ) (ks : List Kind) (f : List Float) (at : ℕ) (q : Evaluated) (f' : List Float) : Type 0 where
+  pub is : length f ≡ 2940 → (w : Word) → IsWord w → code ≡ code_of w → Answers (apply_row e (find table w (values_at ks f at))) at f q f'
 
 -- q answers the row over values of the kinds that made the key
-pub record ForKinds (e : Ellipsoid) (code key : ℕ) (f : List Float) (at n : ℕ) (q : Evaluated) (f' : List Float) : Type 0 where
-  pub is : (ks : List Kind) → key_of ks ≡ key → RowLaid e code ks f at n q f'
+pub record ForKinds (e : Ellipsoid) (code key : ℕ) (f : List Float) (at : ℕ) (q : Evaluated) (f' : List Float) : Type 0 where
+  pub is : (ks : List Kind) → key_of ks ≡ key → RowLaid e code ks f at q f'
 
 -- the same, for a key that is none of these
-pub record ForKindsBeyond (keys : List ℕ) (e : Ellipsoid) (code key : ℕ) (f : List Float) (at n : ℕ) (q : Evaluated) (f' : List Float) : Type 0 where
-  pub is : Missed keys key → ForKinds e code key f at n q f'
+pub record ForKindsBeyond (keys : List ℕ) (e : Ellipsoid) (code key : ℕ) (f : List Float) (at : ℕ) (q : Evaluated) (f' : List Float) : Type 0 where
+  pub is : Missed keys key → ForKinds e code key f at q f'
 
 -- the keys of the rows that take no vector and no frame, in the order of the code's arms, the last first
 unfoldable pub plain_keys : List ℕ
@@ -111,27 +116,27 @@ axis_in c = when (eqb (code_of (axis_word Axis.Z)) c) Axis.Z (when (eqb (code_of
 
 -- ---- expressions
 
--- r answers the expression that the reader reads at a place
-pub record Evals (s : List ℕ) (at depth : ℕ) (e : Ellipsoid) (ps : Known Value) (f : List Float) (top : ℕ) (r : Evaluated) (f' : List Float) : Type 0 where
-  pub is : (x : Expr) (n : ℕ) → read_expr depth s at ≡ got x n → Answers (eval x e ps) n top f r f'
+-- r answers the expression that the reader reads at a place, up to the place m
+pub record Evals (s : List ℕ) (at depth : ℕ) (e : Ellipsoid) (ps : Known Value) (f : List Float) (top : ℕ) (r : Evaluated) (m : ℕ) (f' : List Float) : Type 0 where
+  pub is : (x : Expr) (n : ℕ) → read_expr depth s at ≡ got x n → AnswersTo (eval x e ps) n top f r m f'
 
 -- r answers a bracket from a place on: its arguments there, at most `left`, after the values vs, and then the row for w
-pub record Bracket (s : List ℕ) (at depth left : ℕ) (e : Ellipsoid) (w : Word) (ps : Known Value) (vs : List Value) (f : List Float) (top : ℕ) (r : Evaluated) (f' : List Float) : Type 0 where
-  pub is : (xs : Exprs) (n : ℕ) → read_args (read_expr depth s) left s at ≡ got xs n → Answers (then (evals xs e ps) (λ us. apply_row e (find table w (vs ++ us)))) n top f r f'
+pub record Bracket (s : List ℕ) (at depth left : ℕ) (e : Ellipsoid) (w : Word) (ps : Known Value) (vs : List Value) (f : List Float) (top : ℕ) (r : Evaluated) (m : ℕ) (f' : List Float) : Type 0 where
+  pub is : (xs : Exprs) (n : ℕ) → read_args (read_expr depth s) left s at ≡ got xs n → AnswersTo (then (evals xs e ps) (λ us. apply_row e (find table w (vs ++ us)))) n top f r m f'
 
 -- ---- over what is lent: for the known words that it stands for
 
-pub record EvalsWith (s : List ℕ) (at depth : ℕ) (e : Ellipsoid) (names : Names) (f : List Float) (top : ℕ) (r : Evaluated) (f' : List Float) : Type 0 where
-  pub is : (ps : Known Value) → Ready ps names f top → Evals s at depth e ps f top r f'
+pub record EvalsWith (s : List ℕ) (at depth : ℕ) (e : Ellipsoid) (names : Names) (f : List Float) (top : ℕ) (r : Evaluated) (m : ℕ) (f' : List Float) : Type 0 where
+  pub is : (ps : Known Value) → Ready ps names f top → Evals s at depth e ps f top r m f'
 
 -- a known word
-pub record KnownWith (code n : ℕ) (names : Names) (f : List Float) (top : ℕ) (r : Evaluated) (f' : List Float) : Type 0 where
-  pub is : (ps : Known Value) → Ready ps names f top → (w : Word) → IsWord w → code ≡ code_of w → Answers (meet (lookup w ps)) n top f r f'
+pub record KnownWith (code : ℕ) (names : Names) (f : List Float) (top : ℕ) (r : Evaluated) (f' : List Float) : Type 0 where
+  pub is : (ps : Known Value) → Ready ps names f top → (w : Word) → IsWord w → code ≡ code_of w → Answers (meet (lookup w ps)) top f r f'
 
 -- a word or a NUM
-pub record LeafWith (s : List ℕ) (at : ℕ) (names : Names) (f : List Float) (top : ℕ) (r : Evaluated) (f' : List Float) : Type 0 where
-  pub is : (ps : Known Value) → Ready ps names f top → (e : Ellipsoid) (x : Expr) (n : ℕ) → read_leaf s at ≡ got x n → Answers (eval x e ps) n top f r f'
+pub record LeafWith (s : List ℕ) (at : ℕ) (names : Names) (f : List Float) (top : ℕ) (r : Evaluated) (m : ℕ) (f' : List Float) : Type 0 where
+  pub is : (ps : Known Value) → Ready ps names f top → (e : Ellipsoid) (x : Expr) (n : ℕ) → read_leaf s at ≡ got x n → AnswersTo (eval x e ps) n top f r m f'
 
 -- a bracket whose word has this code, after values of the kinds that made the key
-pub record BracketWith (s : List ℕ) (at depth left : ℕ) (e : Ellipsoid) (code : ℕ) (names : Names) (key : ℕ) (f : List Float) (top : ℕ) (r : Evaluated) (f' : List Float) : Type 0 where
-  pub is : (ps : Known Value) → Ready ps names f top → (ks : List Kind) → key_of ks ≡ key → length ks + left ≡ 5 → (w : Word) → IsWord w → code ≡ code_of w → Bracket s at depth left e w ps (values_at ks f top) f top r f'
+pub record BracketWith (s : List ℕ) (at depth left : ℕ) (e : Ellipsoid) (code : ℕ) (names : Names) (key : ℕ) (f : List Float) (top : ℕ) (r : Evaluated) (m : ℕ) (f' : List Float) : Type 0 where
+  pub is : (ps : Known Value) → Ready ps names f top → (ks : List Kind) → key_of ks ≡ key → length ks + left ≡ 5 → (w : Word) → IsWord w → code ≡ code_of w → Bracket s at depth left e w ps (values_at ks f top) f top r m f'

@@ -21,7 +21,7 @@ use Rattle.sheets.specs.code.run.Floats.{float_at, value_at}
 use Rattle.sheets.specs.code.run.Known.{Ready}
 use Rattle.sheets.specs.declared.check.names.Names.{Names}
 use Rattle.sheets.specs.code.check.Newest.{with_name}
-use Rattle.sheets.specs.code.run.Evaluating.{Evaluated, Answers}
+use Rattle.sheets.specs.code.run.Evaluating.{Evaluated, AnswersTo}
 
 -- the readings stand first among the floats, 0 for one that is lacking, where there were only zeros
 pub record WithReadings (rs f f' : List Float) : Type 0 where
@@ -29,9 +29,9 @@ pub record WithReadings (rs f f' : List Float) : Type 0 where
 
 -- ---- a line
 
--- what is left of a let from the place of its expression: its value, and the place of the next line
-pub record LetWith (s : List ℕ) (at : ℕ) (e : Ellipsoid) (names : Names) (f : List Float) (top : ℕ) (r : Evaluated) (f' : List Float) : Type 0 where
-  pub is : (ps : Known Value) → Ready ps names f top → (w : Word) (l : Line) (n : ℕ) → rest s (let_word w) at ≡ got l n → (x : Expr) × (l ≡ let_line w x) × Answers (eval x e ps) n top f r f'
+-- what is left of a let from the place of its expression: its value, and the place m of the next line
+pub record LetWith (s : List ℕ) (at : ℕ) (e : Ellipsoid) (names : Names) (f : List Float) (top : ℕ) (r : Evaluated) (m : ℕ) (f' : List Float) : Type 0 where
+  pub is : (ps : Known Value) → Ready ps names f top → (w : Word) (l : Line) (n : ℕ) → rest s (let_word w) at ≡ got l n → (x : Expr) × (l ≡ let_line w x) × AnswersTo (eval x e ps) n top f r m f'
 
 -- a name given at a place: x is its slot, and it is given among the names
 pub record GivenAt (word kind place : ℕ) (f : List Float) (names : Names) (x : Slot) (names' : Names) : Type 0 where

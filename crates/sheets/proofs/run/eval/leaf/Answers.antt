@@ -19,4 +19,4 @@ pub returns-in-Some-q : goal.returns-in-Some-q
 returns-in-Some-q c = leaf-num _ _ _ _ _ _ c.word-w.ensures c.in-None.is _ c.double-q.ensures c.requires _ _ c.in-Some-q.is _ c.tested.ensures
 
 pub returns-in-None-q : goal.returns-in-None-q
-returns-in-None-q c = leaf-none _ _ _ _ _ _ c.word-w.ensures c.in-None.is _ c.double-q.ensures c.in-None-q.is _ _
+returns-in-None-q c = leaf-none _ _ _ _ _ _ c.word-w.ensures c.in-None.is _ c.double-q.ensures c.in-None-q.is _ _ _

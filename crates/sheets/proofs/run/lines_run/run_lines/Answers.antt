@@ -35,7 +35,7 @@ pub shape_of-out-in-Err : goal.shape_of-out-in-Err
 shape_of-out-in-Err c = c.loop-line.invariant.3
 
 pub returns-in-Err : goal.returns-in-Err
-returns-in-Err c = c.loop-line.invariant.4 _ _ (runs-let-not c.if-at-s.true _ _ (head-says _ _ _ c.line_head.ensures _ (c.in-Some-Let.is ∙ ap Some c.in-Some-Let.field-0-is)) _ _ c.let_value.ensures _ c.in-Err.is _ c.stopped.ensures)
+returns-in-Err c = c.loop-line.invariant.4 _ _ (runs-let-not c.if-at-s.true _ _ (head-says _ _ _ c.line_head.ensures _ (c.in-Some-Let.is ∙ ap Some c.in-Some-Let.field-0-is)) _ _ _ c.let_value.ensures _ c.in-Err.is _ c.stopped.ensures)
 
 pub give-requires : goal.give-requires
 give-requires c = omega (arith, c.loop-line.invariant.1, c.loop-line-test.true)
@@ -50,7 +50,7 @@ pub loop-line-smaller-in-Ok : goal.loop-line-smaller-in-Ok
 loop-line-smaller-in-Ok c = omega (arith, c.loop-line-test.true)
 
 pub loop-line-preserved-in-Ok : goal.loop-line-preserved-in-Ok
-loop-line-preserved-in-Ok c = (simp length-set c.loop-line.invariant.0, omega (arith, c.loop-line.invariant.1), omega (arith, c.loop-line-test.true), c.loop-line.invariant.3, λ q o k. c.loop-line.invariant.4 q o (runs-let c.if-at-s.true _ _ (head-says _ _ _ c.line_head.ensures _ (c.in-Some-Let.is ∙ ap Some c.in-Some-Let.field-0-is)) _ _ c.let_value.ensures _ _ c.in-Ok.is (omega (arith, c.loop-line.invariant.1, c.loop-line-test.true)) _ _ c.give.ensures q o k))
+loop-line-preserved-in-Ok c = (simp length-set c.loop-line.invariant.0, omega (arith, c.loop-line.invariant.1), omega (arith, c.loop-line-test.true), c.loop-line.invariant.3, λ q o k. c.loop-line.invariant.4 q o (runs-let c.if-at-s.true _ _ (head-says _ _ _ c.line_head.ensures _ (c.in-Some-Let.is ∙ ap Some c.in-Some-Let.field-0-is)) _ _ _ c.let_value.ensures _ c.in-Ok.is (omega (arith, c.loop-line.invariant.1, c.loop-line-test.true)) _ _ c.give.ensures q o k))
 
 pub bounds-t-j : goal.bounds-t-j
 bounds-t-j c = omega (arith, (placed-or _ _ _ c.place.ensures _ c.unwrap_or-j.ensures).most, c.loop-line.invariant.0)

@@ -10,8 +10,8 @@ use Rattle.sheets.proofs.run.oriented_rows.at_row.Goals as goal
 
 pub returns-then-b-eq-AT : goal.returns-then-b-eq-AT
 unfolding table word_char code_from
-returns-then-b-eq-AT c = row_laid (ascii "at") tt Geocentric _ _ _ _ _ _ _ (two_at _ _ _ _ c.frame_at-frame.ensures c.vector_at-vector.ensures) _ c.apply_at.ensures _ _ c.laid.ensures c.if-b-eq-AT.true
+returns-then-b-eq-AT c = row_laid (ascii "at") tt Geocentric _ _ _ _ _ _ (two_at _ _ _ _ c.frame_at-frame.ensures c.vector_at-vector.ensures) _ c.apply_at.ensures _ _ c.laid.ensures c.if-b-eq-AT.true
 
 pub returns : goal.returns
 unfolding kind_rows table word_char code_from
-returns c = row-none (6 ∷ 5 ∷ []) (code_of (ascii "at") ∷ []) tt _ _ _ tt _ _ _ (tt, c.if-b-eq-AT.false)
+returns c = row-none (6 ∷ 5 ∷ []) (code_of (ascii "at") ∷ []) tt _ _ _ tt _ _ (tt, c.if-b-eq-AT.false)

@@ -20,7 +20,7 @@ arms = from (code_of (ascii "rx")) 3 ∷ (code_of (ascii "origin") ∷ []) ∷ [
 
 pub returns-in-1074360060 : goal.returns-in-1074360060
 unfolding table word_char code_from
-returns-in-1074360060 c = row_laid (ascii "origin") tt Geocentric _ _ _ _ _ _ _ (one_at _ _ _ c.frame_at-frame.ensures) _ c.apply_origin.ensures _ _ c.laid.ensures c.in-1074360060.is
+returns-in-1074360060 c = row_laid (ascii "origin") tt Geocentric _ _ _ _ _ _ (one_at _ _ _ c.frame_at-frame.ensures) _ c.apply_origin.ensures _ _ c.laid.ensures c.in-1074360060.is
 
 pub returns-in-692 : goal.returns-in-692
 unfolding table word_char code_from axis_in
@@ -28,8 +28,8 @@ returns-in-692 c = row_by axis_word axis_in (X ∷ Y ∷ Z ∷ []) ((refl, tt), 
 
 pub returns-in_default : goal.returns-in_default
 unfolding kind_rows table word_char code_from
-returns-in_default c = row-none (6 ∷ []) (flat arms) tt _ _ _ tt _ _ _ (missed-flat arms _ (c.in_default.in_default-own.rest, none_below (code_of (ascii "rx")) 3 c.in_default.if-b-lt690-own.true))
+returns-in_default c = row-none (6 ∷ []) (flat arms) tt _ _ _ tt _ _ (missed-flat arms _ (c.in_default.in_default-own.rest, none_below (code_of (ascii "rx")) 3 c.in_default.if-b-lt690-own.true))
 
 pub returns-in_default-2 : goal.returns-in_default-2
 unfolding kind_rows table word_char code_from
-returns-in_default-2 c = row-none (6 ∷ []) (flat arms) tt _ _ _ tt _ _ _ (missed-flat arms _ (c.in_default.in_default-own.rest, none_above (code_of (ascii "rx")) 3 c.in_default.if-b-lt693-own.false))
+returns-in_default-2 c = row-none (6 ∷ []) (flat arms) tt _ _ _ tt _ _ (missed-flat arms _ (c.in_default.in_default-own.rest, none_above (code_of (ascii "rx")) 3 c.in_default.if-b-lt693-own.false))

@@ -10,8 +10,8 @@ use Rattle.sheets.proofs.run.oriented_rows.scale_row.Goals as goal
 
 pub returns-then-b-eq-SCALE : goal.returns-then-b-eq-SCALE
 unfolding table word_char code_from
-returns-then-b-eq-SCALE c = row_laid (ascii "scale") tt Vector _ _ _ _ _ _ _ (two_at _ _ _ _ c.vector_at-vector.ensures c.number_at-factor.ensures) _ c.apply_scale.ensures _ _ c.laid.ensures c.if-b-eq-SCALE.true
+returns-then-b-eq-SCALE c = row_laid (ascii "scale") tt Vector _ _ _ _ _ _ (two_at _ _ _ _ c.vector_at-vector.ensures c.number_at-factor.ensures) _ c.apply_scale.ensures _ _ c.laid.ensures c.if-b-eq-SCALE.true
 
 pub returns : goal.returns
 unfolding kind_rows table word_char code_from
-returns c = row-none (5 ∷ 0 ∷ []) (code_of (ascii "scale") ∷ []) tt _ _ _ tt _ _ _ (tt, c.if-b-eq-SCALE.false)
+returns c = row-none (5 ∷ 0 ∷ []) (code_of (ascii "scale") ∷ []) tt _ _ _ tt _ _ (tt, c.if-b-eq-SCALE.false)

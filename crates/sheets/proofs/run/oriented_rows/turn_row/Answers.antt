@@ -10,8 +10,8 @@ use Rattle.sheets.proofs.run.oriented_rows.turn_row.Goals as goal
 
 pub returns-then-b-eq-TURN : goal.returns-then-b-eq-TURN
 unfolding table word_char code_from
-returns-then-b-eq-TURN c = row_laid (ascii "turn") tt Frame _ _ _ _ _ _ _ (two_at _ _ _ _ c.frame_at-frame.ensures c.angle_at-angle.ensures) _ c.apply_turn.ensures _ _ c.laid.ensures c.if-b-eq-TURN.true
+returns-then-b-eq-TURN c = row_laid (ascii "turn") tt Frame _ _ _ _ _ _ (two_at _ _ _ _ c.frame_at-frame.ensures c.angle_at-angle.ensures) _ c.apply_turn.ensures _ _ c.laid.ensures c.if-b-eq-TURN.true
 
 pub returns : goal.returns
 unfolding kind_rows table word_char code_from
-returns c = row-none (6 ∷ 1 ∷ []) (code_of (ascii "turn") ∷ []) tt _ _ _ tt _ _ _ (tt, c.if-b-eq-TURN.false)
+returns c = row-none (6 ∷ 1 ∷ []) (code_of (ascii "turn") ∷ []) tt _ _ _ tt _ _ (tt, c.if-b-eq-TURN.false)

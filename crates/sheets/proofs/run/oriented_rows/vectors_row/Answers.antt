@@ -24,4 +24,4 @@ returns-in-1521 c = row_by sum_word (λ x. eqb x (code_of (ascii "sub"))) (false
 
 pub returns-in_default : goal.returns-in_default
 unfolding kind_rows table word_char code_from
-returns-in_default c = row-none (5 ∷ 5 ∷ []) (flat arms) tt _ _ _ tt _ _ _ (missed-flat arms _ c.in_default.in_default-own.rest)
+returns-in_default c = row-none (5 ∷ 5 ∷ []) (flat arms) tt _ _ _ tt _ _ (missed-flat arms _ c.in_default.in_default-own.rest)

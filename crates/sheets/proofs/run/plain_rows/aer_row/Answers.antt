@@ -20,7 +20,7 @@ arms = (code_of (aer_word Enu) ∷ code_of (aer_word Ned) ∷ code_of (aer_word 
 
 pub returns-in-16873 : goal.returns-in-16873
 unfolding table word_char code_from
-returns-in-16873 c = row_laid (ascii "lla") tt Geodetic _ _ _ _ _ _ _ (three-at _ _ _ _ _ c.angle_at-azimuth.ensures c.angle_at-elevation.ensures c.length_at-range.ensures) _ c.apply_lla.ensures _ _ c.laid.ensures c.in-16873.is
+returns-in-16873 c = row_laid (ascii "lla") tt Geodetic _ _ _ _ _ _ (three-at _ _ _ _ _ c.angle_at-azimuth.ensures c.angle_at-elevation.ensures c.length_at-range.ensures) _ c.apply_lla.ensures _ _ c.laid.ensures c.in-16873.is
 
 pub returns-in-58037 : goal.returns-in-58037
 unfolding table word_char code_from orientation_in
@@ -28,4 +28,4 @@ returns-in-58037 c = row_by aer_word orientation_in (Enu ∷ Ned ∷ Wan ∷ Bod
 
 pub returns-in_default : goal.returns-in_default
 unfolding kind_rows table word_char code_from
-returns-in_default c = row-none (1 ∷ 1 ∷ 2 ∷ []) (flat arms) tt _ _ _ tt _ _ _ (missed-flat arms _ c.in_default.in_default-own.rest)
+returns-in_default c = row-none (1 ∷ 1 ∷ 2 ∷ []) (flat arms) tt _ _ _ tt _ _ (missed-flat arms _ c.in_default.in_default-own.rest)

@@ -10,8 +10,8 @@ use Rattle.sheets.proofs.run.plain_rows.body_row.Goals as goal
 
 pub returns-then-b-eq-BODY : goal.returns-then-b-eq-BODY
 unfolding table word_char code_from
-returns-then-b-eq-BODY c = row_laid (ascii "body") tt Frame _ _ _ _ _ _ _ (four-at _ _ _ _ _ _ c.angle_at-yaw.ensures c.angle_at-pitch.ensures c.angle_at-roll.ensures c.value_at-position.ensures) _ c.apply_body.ensures _ _ c.laid.ensures c.if-b-eq-BODY.true
+returns-then-b-eq-BODY c = row_laid (ascii "body") tt Frame _ _ _ _ _ _ (four-at _ _ _ _ _ _ c.angle_at-yaw.ensures c.angle_at-pitch.ensures c.angle_at-roll.ensures c.value_at-position.ensures) _ c.apply_body.ensures _ _ c.laid.ensures c.if-b-eq-BODY.true
 
 pub returns : goal.returns
 unfolding kind_rows table word_char code_from
-returns c = row-none (1 ∷ 1 ∷ 1 ∷ 7 ∷ []) (code_of (ascii "body") ∷ []) tt _ _ _ tt _ _ _ (tt, c.if-b-eq-BODY.false)
+returns c = row-none (1 ∷ 1 ∷ 1 ∷ 7 ∷ []) (code_of (ascii "body") ∷ []) tt _ _ _ tt _ _ (tt, c.if-b-eq-BODY.false)

@@ -20,7 +20,7 @@ arms = (code_of (vector_word Enu) ∷ code_of (vector_word Ned) ∷ code_of (vec
 
 pub returns-in-9783 : goal.returns-in-9783
 unfolding table word_char code_from
-returns-in-9783 c = row_laid (ascii "geo") tt Geocentric _ _ _ _ _ _ _ (three-at _ _ _ _ _ c.length_at-x.ensures c.length_at-y.ensures c.length_at-z.ensures) _ c.apply_geo.ensures _ _ c.laid.ensures c.in-9783.is
+returns-in-9783 c = row_laid (ascii "geo") tt Geocentric _ _ _ _ _ _ (three-at _ _ _ _ _ c.length_at-x.ensures c.length_at-y.ensures c.length_at-z.ensures) _ c.apply_geo.ensures _ _ c.laid.ensures c.in-9783.is
 
 pub returns-in-1121750 : goal.returns-in-1121750
 unfolding table word_char code_from orientation_in
@@ -28,4 +28,4 @@ returns-in-1121750 c = row_by vector_word orientation_in (Enu ∷ Ned ∷ Wan �
 
 pub returns-in_default : goal.returns-in_default
 unfolding kind_rows table word_char code_from
-returns-in_default c = row-none (2 ∷ 2 ∷ 2 ∷ []) (flat arms) tt _ _ _ tt _ _ _ (missed-flat arms _ c.in_default.in_default-own.rest)
+returns-in_default c = row-none (2 ∷ 2 ∷ 2 ∷ []) (flat arms) tt _ _ _ tt _ _ (missed-flat arms _ c.in_default.in_default-own.rest)

@@ -20,11 +20,11 @@ arms = (code_of (ascii "enu") ∷ code_of (ascii "ned") ∷ []) ∷ (code_of (as
 
 pub returns-in-38252798 : goal.returns-in-38252798
 unfolding table word_char code_from
-returns-in-38252798 c = row_laid (ascii "togeo") tt Geocentric _ _ _ _ _ _ _ (one_at _ _ _ c.value_at-position.ensures) _ c.apply_togeo.ensures _ _ c.laid.ensures c.in-38252798.is
+returns-in-38252798 c = row_laid (ascii "togeo") tt Geocentric _ _ _ _ _ _ (one_at _ _ _ c.value_at-position.ensures) _ c.apply_togeo.ensures _ _ c.laid.ensures c.in-38252798.is
 
 pub returns-in-38259888 : goal.returns-in-38259888
 unfolding table word_char code_from
-returns-in-38259888 c = row_laid (ascii "tolla") tt Geodetic _ _ _ _ _ _ _ (one_at _ _ _ c.value_at-position.ensures) _ c.apply_tolla.ensures _ _ c.laid-in-38259888.ensures c.in-38259888.is
+returns-in-38259888 c = row_laid (ascii "tolla") tt Geodetic _ _ _ _ _ _ (one_at _ _ _ c.value_at-position.ensures) _ c.apply_tolla.ensures _ _ c.laid-in-38259888.ensures c.in-38259888.is
 
 pub returns-in-7384 : goal.returns-in-7384
 unfolding table word_char code_from
@@ -32,4 +32,4 @@ returns-in-7384 c = row_by level_word (λ x. eqb x (code_of (ascii "ned"))) (fal
 
 pub returns-in_default : goal.returns-in_default
 unfolding kind_rows table word_char code_from
-returns-in_default c = of-position c.requires.0 c.requires.1 (row-none (3 ∷ []) (flat arms) tt _ _ _ tt _ _ _ (missed-flat arms _ c.in_default.in_default-own.rest)) (row-none (4 ∷ []) (flat arms) tt _ _ _ tt _ _ _ (missed-flat arms _ c.in_default.in_default-own.rest))
+returns-in_default c = of-position c.requires.0 c.requires.1 (row-none (3 ∷ []) (flat arms) tt _ _ _ tt _ _ (missed-flat arms _ c.in_default.in_default-own.rest)) (row-none (4 ∷ []) (flat arms) tt _ _ _ tt _ _ (missed-flat arms _ c.in_default.in_default-own.rest))

@@ -10,8 +10,8 @@ use Rattle.sheets.proofs.run.plain_rows.wan_row.Goals as goal
 
 pub returns-then-b-eq-WAN : goal.returns-then-b-eq-WAN
 unfolding table word_char code_from
-returns-then-b-eq-WAN c = row_laid (ascii "wan") tt Frame _ _ _ _ _ _ _ (two_at _ _ _ _ c.angle_at-azimuth.ensures c.value_at-position.ensures) _ c.apply_wan.ensures _ _ c.laid.ensures c.if-b-eq-WAN.true
+returns-then-b-eq-WAN c = row_laid (ascii "wan") tt Frame _ _ _ _ _ _ (two_at _ _ _ _ c.angle_at-azimuth.ensures c.value_at-position.ensures) _ c.apply_wan.ensures _ _ c.laid.ensures c.if-b-eq-WAN.true
 
 pub returns : goal.returns
 unfolding kind_rows table word_char code_from
-returns c = row-none (1 ∷ 7 ∷ []) (code_of (ascii "wan") ∷ []) tt _ _ _ tt _ _ _ (tt, c.if-b-eq-WAN.false)
+returns c = row-none (1 ∷ 7 ∷ []) (code_of (ascii "wan") ∷ []) tt _ _ _ tt _ _ (tt, c.if-b-eq-WAN.false)
