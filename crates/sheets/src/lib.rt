@@ -40,5 +40,5 @@ pub(crate) enum Halt {
     Sticks,
 }
 
-// The kind code of an expression's value, or why there is none. The place after the expression goes by a reference: with both in one answer a run of nested brackets took a third more time.
+// The kind code of an expression's value, or why there is none. The place after the expression goes by a reference: with both in one answer a run of nested brackets took up to a third more time.
 pub(crate) type Evaluated = Result<u8, Halt>;

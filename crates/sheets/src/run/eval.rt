@@ -32,7 +32,7 @@ fn known(code: u64, names: &Names, floats: &mut [f64; 2940], top: usize) -> Eval
     tested(kind, floats, top)
 }
 
-// A word or a NUM.
+// A word or a NUM. Where there is a value, `at` is then the place after it.
 fn leaf(s: &[u8], at: &mut usize, names: &Names, floats: &mut [f64; 2940], top: usize) -> Evaluated
     requires { top + 21 ≤ 2940 }
     ensures { LeafWith s.now at.old names.now floats.old top result at.new floats.new }
@@ -86,7 +86,7 @@ pub fn eval(
     leaf(s, at, names, floats, top)
 }
 
-// The bracket of the word with this code, from the place after its word: its arguments, the closing bracket, and then its row.
+// The bracket of the word with this code, from the place after its word: its arguments, the closing bracket, and then its row. Where there is a value, `at` is then the place after the closing bracket.
 #[cycle(bracket_eval)]
 pub fn bracket(
     s: &[u8],

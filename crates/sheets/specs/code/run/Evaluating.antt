@@ -52,7 +52,7 @@ pub record Answers (o : Out Value) (top : ℕ) (f : List Float) (r : Evaluated) 
   pub lies : LiesOf o f' top
   pub kept : KeptBelow f top f'
 
--- the same, where what was read ends at n: where there is a value, m is n
+-- the same, where what was read ends at n and m is the place after the call: where there is a value, m is n
 pub record AnswersTo (o : Out Value) (n top : ℕ) (f : List Float) (r : Evaluated) (m : ℕ) (f' : List Float) : Type 0 where
   pub answers : Answers o top f r f'
   pub ends : (k : ℕ) → r ≡ Ok k → m ≡ n
@@ -116,11 +116,11 @@ axis_in c = when (eqb (code_of (axis_word Axis.Z)) c) Axis.Z (when (eqb (code_of
 
 -- ---- expressions
 
--- r answers the expression that the reader reads at a place, up to the place m
+-- r answers the expression that the reader reads at a place, and m is the place after the call
 pub record Evals (s : List ℕ) (at depth : ℕ) (e : Ellipsoid) (ps : Known Value) (f : List Float) (top : ℕ) (r : Evaluated) (m : ℕ) (f' : List Float) : Type 0 where
   pub is : (x : Expr) (n : ℕ) → read_expr depth s at ≡ got x n → AnswersTo (eval x e ps) n top f r m f'
 
--- r answers a bracket from a place on: its arguments there, at most `left`, after the values vs, and then the row for w
+-- r answers a bracket from a place on, and m is the place after the call: its arguments there, at most `left`, after the values vs, and then the row for w
 pub record Bracket (s : List ℕ) (at depth left : ℕ) (e : Ellipsoid) (w : Word) (ps : Known Value) (vs : List Value) (f : List Float) (top : ℕ) (r : Evaluated) (m : ℕ) (f' : List Float) : Type 0 where
   pub is : (xs : Exprs) (n : ℕ) → read_args (read_expr depth s) left s at ≡ got xs n → AnswersTo (then (evals xs e ps) (λ us. apply_row e (find table w (vs ++ us)))) n top f r m f'
 

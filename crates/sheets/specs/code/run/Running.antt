@@ -29,7 +29,7 @@ pub record WithReadings (rs f f' : List Float) : Type 0 where
 
 -- ---- a line
 
--- what is left of a let from the place of its expression: its value, and the place m of the next line
+-- what is left of a let from the place of its expression: its value, and where there is one, the place m of the next line
 pub record LetWith (s : List ℕ) (at : ℕ) (e : Ellipsoid) (names : Names) (f : List Float) (top : ℕ) (r : Evaluated) (m : ℕ) (f' : List Float) : Type 0 where
   pub is : (ps : Known Value) → Ready ps names f top → (w : Word) (l : Line) (n : ℕ) → rest s (let_word w) at ≡ got l n → (x : Expr) × (l ≡ let_line w x) × AnswersTo (eval x e ps) n top f r m f'
 
